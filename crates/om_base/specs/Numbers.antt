@@ -1,0 +1,16 @@
+-- Numbers of a fixed width in a file, lowest byte first.
+use Rattle.std.specs.Prelude.{ℕ, ◌+◌, ◌*◌, List, [], ◌∷◌, length, take, drop, nat_le, Option, Some, None, if◌then◌else◌}
+use Rattle.std.specs.Option.{option_map}
+
+-- the little-endian number of some bytes
+unfoldable pub le : List ℕ → ℕ
+le [] = 0
+le (b ∷ bs) = b + 256 * le bs
+
+-- so many bytes from a place, if they are there
+abbrev pub bytes_at : ℕ → List ℕ → ℕ → Option (List ℕ)
+bytes_at count bytes at = if nat_le (at + count) (length bytes) then Some (take count (drop at bytes)) else None
+
+-- the number in so many bytes from a place, if they are there
+unfoldable pub number_at : ℕ → List ℕ → ℕ → Option ℕ
+number_at count bytes at = option_map le (bytes_at count bytes at)
