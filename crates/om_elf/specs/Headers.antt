@@ -1,0 +1,37 @@
+-- The ELF header and the program headers: System V gABI, chapter 4, "ELF Header", and chapter 5, "Program Header".
+use Rattle.std.specs.Prelude.{ℕ, ◌+◌, ◌*◌, List, unwrap_or}
+use Rattle.om_base.specs.Numbers.{number_at}
+use Rattle.om_elf.specs.declared.file_header.FileHeader.{FileHeader}
+use Rattle.om_elf.specs.declared.program_header.ProgramHeader.{ProgramHeader}
+
+-- the number of two bytes at a place of the file, 0 where it ends before
+abbrev pub half : List ℕ → ℕ → ℕ
+half file at = unwrap_or (number_at 2 file at) 0
+
+-- the number of four bytes at a place of the file, 0 where it ends before
+abbrev pub word : List ℕ → ℕ → ℕ
+word file at = unwrap_or (number_at 4 file at) 0
+
+-- the ELF header's fields at their offsets
+abbrev pub file_header : List ℕ → FileHeader
+file_header file = record {
+  e_type = half file 16;
+  e_machine = half file 18;
+  e_entry = word file 24;
+  e_phoff = word file 28;
+  e_flags = word file 36;
+  e_phentsize = half file 42;
+  e_phnum = half file 44;
+  e_shnum = half file 48;
+}
+
+-- the program header that begins at an offset
+abbrev pub program_header : List ℕ → ℕ → ProgramHeader
+program_header file at = record {
+  p_type = word file at;
+  p_offset = word file (at + 4);
+  p_vaddr = word file (at + 8);
+  p_filesz = word file (at + 16);
+  p_memsz = word file (at + 20);
+  p_flags = word file (at + 24);
+}

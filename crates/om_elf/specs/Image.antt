@@ -1,0 +1,20 @@
+-- What a loadable segment puts into memory.
+use Rattle.std.specs.Prelude.{ℕ, ◌+◌, ◌^◌, ◌≤◌, ◌<◌, List, length, sum_by, All}
+
+-- a segment's address, size in memory, rights, and the bytes that the file gives
+pub record Image : Type 0 where
+  pub vaddr : ℕ
+  pub memsz : ℕ
+  pub rights : ℕ
+  pub bytes : List ℕ
+
+-- the file gives at most the segment's size, which ends in the address space
+pub record FitsMemory (image : Image) : Type 0 where
+  pub bytes : length image.bytes ≤ image.memsz
+  pub end : image.vaddr + image.memsz ≤ 2 ^ 32
+  pub rights : image.rights < 8
+
+-- each segment fits, and together they take at most 32 MiB
+pub record AreLoadable (images : List Image) : Type 0 where
+  pub fit : All FitsMemory images
+  pub small : sum_by (λ image. image.memsz) images ≤ 33554432

@@ -1,0 +1,4 @@
+pub mod Image
+pub mod Headers
+pub mod Executable
+pub mod Gives
