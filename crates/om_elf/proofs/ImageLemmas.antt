@@ -8,6 +8,7 @@ pub AreLoadable-one : (image : Image) → FitsMemory image → image.memsz ≤ 3
 AreLoadable-one image fits small = record {
   fit = All-push FitsMemory [] image (All-nil FitsMemory) fits;
   small = omega arith;
+  few = omega arith;
 }
 
 pub ruleset one_segment = AreLoadable-one

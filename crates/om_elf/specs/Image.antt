@@ -14,7 +14,8 @@ pub record FitsMemory (image : Image) : Type 0 where
   pub end : image.vaddr + image.memsz ≤ 2 ^ 32
   pub rights : image.rights < 8
 
--- each segment fits, and together they take at most 32 MiB
+-- each segment fits, together they take at most 32 MiB, and there are fewer than 65536
 pub record AreLoadable (images : List Image) : Type 0 where
   pub fit : All FitsMemory images
   pub small : sum_by (λ image. image.memsz) images ≤ 33554432
+  pub few : length images < 65536

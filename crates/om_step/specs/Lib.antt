@@ -1,0 +1,7 @@
+pub mod Contents
+pub mod Table
+pub mod State
+pub mod Step
+pub mod First
+pub mod Gives
+pub mod Laid
