@@ -1,0 +1,24 @@
+-- A shelf in memory, and what a take leaves of it.
+use Rattle.std.specs.Prelude.{ℕ, List, [], ◌∷◌, ◌++◌, Result, Ok, Err}
+use Rattle.om_io.specs.Counts.{one_more}
+use Rattle.om_io.specs.declared.shelf.Taken.{Taken}
+use Rattle.om_io.specs.declared.shelf.ShelfFail.{ShelfFail}
+use Rattle.om_io.specs.declared.shelf.ShelfFail.TheVariants.{NoMemory, Failed}
+
+-- names with their bytes, the numbers of the calls that fail, how many calls there were, and the names of
+-- the files that could not be taken, oldest first
+pub record ShelfState : Type 0 where
+  pub files : List (List ℕ × List ℕ)
+  pub failing : List ℕ
+  pub calls : ℕ
+  pub failed_takes : List (List ℕ)
+
+-- the state after one more call
+abbrev pub called : ShelfState → ShelfState
+called state = record state { calls = one_more state.calls }
+
+-- the state after a take of a name with that result
+abbrev pub after_take : ShelfState → List ℕ → Result Taken ShelfFail → ShelfState
+after_take state name (Ok taken) = called state
+after_take state name (Err NoMemory) = called state
+after_take state name (Err Failed) = record (called state) { failed_takes = state.failed_takes ++ name ∷ [] }

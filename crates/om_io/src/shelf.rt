@@ -1,0 +1,63 @@
+//! Where files come from.
+
+ghost use Rattle.std.specs.Prelude.{◌≡◌, ℕ, List, Option, IfSome, IfOk};
+ghost use Rattle.om_io.specs.Shelf.{Contents, FitsIn, IsTakenOf, FailsByCount};
+
+use om_base::{Bytes, NoMemory};
+use std::alloc::{AllocError, Global};
+
+/// What there is of a file that was asked for.
+#[derive(Debug, Drop)]
+pub enum Taken {
+    /// All of its bytes.
+    Whole(Bytes),
+    /// It has more bytes than were asked for.
+    Longer,
+}
+
+/// Why a file was not taken.
+#[derive(Clone, Copy, Debug, PartialEq, Eq)]
+pub enum ShelfFail {
+    /// No memory was left for it.
+    NoMemory,
+    /// The file is missing, or can't be read.
+    Failed,
+}
+
+impl From<NoMemory> for ShelfFail {
+    ghost use Rattle.std.specs.Prelude.{◌≡◌};
+    ghost use Rattle.om_io.specs.declared.shelf.ShelfFail.TheVariants as fail;
+
+    ghost from_gives = { λ _ e. e ≡ fail.NoMemory };
+
+    fn from(_error: NoMemory) -> ShelfFail {
+        ShelfFail::NoMemory
+    }
+}
+
+impl From<AllocError> for ShelfFail {
+    ghost use Rattle.std.specs.Prelude.{◌≡◌};
+    ghost use Rattle.om_io.specs.declared.shelf.ShelfFail.TheVariants as fail;
+
+    ghost from_gives = { λ _ e. e ≡ fail.NoMemory };
+
+    fn from(_error: AllocError) -> ShelfFail {
+        ShelfFail::NoMemory
+    }
+}
+
+/// Files by name.
+pub trait Shelf {
+    /// What each name holds, where the shelf tells it.
+    ghost told: { Self → Option Contents };
+
+    /// How often a file of each name could not be taken. No number falls.
+    ghost failed_takes: { Self → List ℕ → ℕ };
+
+    /// The file of that name, unless it has more than `most` bytes.
+    fn take(&mut self, alloc: Global, name: &str, most: u64) -> Result<Taken, ShelfFail>
+        ensures fits { IfOk result (FitsIn most) }
+        ensures taken { IfSome (told self.old) (λ files. IfOk result (IsTakenOf (files name.now) most)) }
+        ensures same { told self.new ≡ told self.old }
+        ensures cause { FailsByCount (failed_takes self.old) (failed_takes self.new) name.now result };
+}
