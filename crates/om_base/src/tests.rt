@@ -40,8 +40,9 @@ fn lists_hold_what_was_put_in(rt: HostRuntime) -> Result<(), Fail> {
     bytes.add(b"c")?;
     assert_eq!(rt; bytes.bytes(), b"abc".as_slice());
     let mut text = Text::copy_of(rt.alloc(), b"")?;
+    text.fill(b' ', 3)?;
     text.add(b"pc")?;
-    assert_eq!(rt; text.bytes(), b"pc".as_slice());
+    assert_eq!(rt; text.bytes(), b"   pc".as_slice());
     assert_eq!(rt; Name::of(bytes.bytes()).bytes(), b"abc".as_slice());
 
     let mut items = Items::new(rt.alloc());

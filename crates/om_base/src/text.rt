@@ -1,6 +1,6 @@
 //! Text that is built up piece by piece, and numbers as text.
 
-ghost use Rattle.std.specs.Prelude.{◌≡◌, ◌++◌, IfOk, OnOk, OnErr};
+ghost use Rattle.std.specs.Prelude.{◌≡◌, ◌++◌, replicate, IfOk, OnOk, OnErr};
 ghost use Rattle.std.specs.Fmt.{signed_decimal};
 
 use crate::NoMemory;
@@ -38,6 +38,16 @@ impl Text {
         ensures err { OnErr result (self.new ≡ self.old) }
     {
         self.items.extend_from_slice(bytes)?;
+        Ok(())
+    }
+
+    /// Appends `byte` so many times.
+    pub fn fill(&mut self, byte: u8, count: usize) -> Result<(), NoMemory>
+        ensures ok { OnOk result (self.new ≡ self.old ++ replicate count byte) }
+        ensures err { OnErr result (self.new ≡ self.old) }
+    {
+        let size = self.items.len().checked_add(count).ok_or(NoMemory)?;
+        self.items.resize(size, byte)?;
         Ok(())
     }
 
