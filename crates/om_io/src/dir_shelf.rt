@@ -1,6 +1,7 @@
 //! The files of a real folder.
 
-ghost use Rattle.std.specs.Prelude.{None};
+ghost use Rattle.std.specs.Prelude.{◌≡◌, None};
+ghost use Rattle.std.specs.Path.{path_bytes};
 
 use crate::{Shelf, ShelfFail, Taken};
 use om_base::Bytes;
@@ -21,7 +22,10 @@ pub struct DirShelf<'a, R> {
 
 impl<'a, R: rt::Files> DirShelf<'a, R> {
     /// The files of `folder`.
-    pub fn new(files: &'a R, folder: &'a str) -> DirShelf<'a, R> {
+    pub fn new(files: &'a R, folder: &'a str) -> DirShelf<'a, R>
+        ensures folder { path_bytes result.folder ≡ folder.now }
+        ensures failed_takes { result.failed_takes ≡ 0 }
+    {
         DirShelf {
             files,
             folder: Path::new(folder),

@@ -1,6 +1,6 @@
 //! A real output.
 
-ghost use Rattle.std.specs.Prelude.{◌<◌, ◌≤◌, None, IfOk, length};
+ghost use Rattle.std.specs.Prelude.{◌≡◌, ◌<◌, ◌≤◌, None, IfOk, length};
 
 use crate::{Sink, SinkFail};
 use std::io;
@@ -18,7 +18,10 @@ pub struct StdSink<W> {
 
 impl<W: Write> StdSink<W> {
     /// A sink that writes to `out`.
-    pub fn new(out: W) -> StdSink<W> {
+    pub fn new(out: W) -> StdSink<W>
+        ensures out { result.out ≡ out }
+        ensures faults { result.faults ≡ 0 }
+    {
         StdSink { out, faults: 0 }
     }
 }
@@ -42,6 +45,7 @@ impl<W: Write> Sink for StdSink<W> {
 
     ghost refused_growths = { λ _. 0 };
 
+    /// A flush that fails is an error too. Memory is never wanting.
     fn write(&mut self, bytes: &[u8]) -> Result<usize, SinkFail> {
         if bytes.is_empty() {
             return Ok(0);
