@@ -1,0 +1,13 @@
+use Rattle.std.proofs.Common.{[], ◌∷◌, ◌++◌}
+use Rattle.om_io.proofs.PutsLemmas.{puts_then, puts_stops}
+use Rattle.om_cli.specs.Result.{escaped}
+use Rattle.om_cli.proofs.ending.put_unread.Goals as goal
+
+pub returns-in-Err : goal.returns-in-Err
+returns-in-Err g c = puts_stops (escaped c.args.name.now ++ 10 ∷ []) c.in-Err.ensures
+
+pub returns-in-Err-put_escaped : goal.returns-in-Err-put_escaped
+returns-in-Err-put_escaped g c = puts_stops (10 ∷ []) (puts_then c.in-Ok.ensures c.in-Err-put_escaped.ensures)
+
+pub returns : goal.returns
+returns g c = puts_then (puts_then c.in-Ok.ensures c.in-Ok-put_escaped.ensures) c.put_all-2.ensures

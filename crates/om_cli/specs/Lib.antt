@@ -1,0 +1,10 @@
+pub mod Log
+pub mod Query
+pub mod Run
+pub mod Rows
+pub mod Text
+pub mod Outcome
+pub mod Result
+pub mod Ends
+pub mod Words
+pub mod Reads

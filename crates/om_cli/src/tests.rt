@@ -1,0 +1,157 @@
+//! Whole commands over files and sinks in memory.
+
+use crate::program::omni;
+use om_io::{Calls, Files, MemShelf, MemSink};
+use std::alloc::Global;
+use std::test::Fail;
+
+/// `li a0,3; addi a0,a0,-1; bnez a0,-4; li a7,93; ecall` at 65536, as an executable.
+const PROGRAM: [u8; 104] = [
+    127, 69, 76, 70, 1, 1, 1, 0, 0, 0, 0, 0, 0, 0, 0, 0, 2, 0, 243, 0, 1, 0, 0, 0, 0, 0, 1, 0, 52,
+    0, 0, 0, 0, 0, 0, 0, 0, 0, 0, 0, 52, 0, 32, 0, 1, 0, 0, 0, 0, 0, 0, 0, 1, 0, 0, 0, 84, 0, 0, 0,
+    0, 0, 1, 0, 0, 0, 1, 0, 20, 0, 0, 0, 20, 0, 0, 0, 5, 0, 0, 0, 4, 0, 0, 0, 19, 5, 48, 0, 19, 5,
+    245, 255, 227, 30, 5, 254, 147, 8, 208, 5, 115, 0, 0, 0,
+];
+
+/// Its log: the call at step 8, which answers 0, and the end at step 9 by exit with value 0.
+const LOG: [u8; 79] = [
+    79, 84, 76, 49, 0, 0, 240, 127, 0, 0, 16, 0, 0, 16, 1, 0, 0, 0, 16, 0, 1, 8, 0, 0, 0, 0, 0, 0,
+    0, 93, 0, 0, 0, 0, 0, 0, 0, 0, 0, 0, 0, 0, 0, 0, 0, 0, 0, 0, 0, 0, 0, 0, 0, 0, 0, 0, 0, 0, 0,
+    0, 0, 0, 0, 0, 0, 3, 9, 0, 0, 0, 0, 0, 0, 0, 0, 0, 0, 0, 0,
+];
+
+const SQL: &str = "SELECT step FROM states WHERE pc = 65544";
+
+const ANSWER: &[u8] = b"step\n   2\n   4\n   6\nrows 3\n";
+
+/// What a command left.
+#[derive(Drop)]
+struct Ran {
+    status: u8,
+    out: Vec<u8>,
+    err: Vec<u8>,
+}
+
+/// One byte of the file put to another value.
+#[derive(Clone, Copy)]
+struct Change {
+    at: usize,
+    byte: u8,
+}
+
+/// The file with the change, if there is one.
+fn changed(alloc: Global, file: &[u8], change: Option<Change>) -> Result<Vec<u8>, Fail> {
+    let mut bytes = file.to_vec(alloc)?;
+    if let Some(Change { at, byte }) = change
+        && at < bytes.len()
+    {
+        bytes[at] = byte;
+    }
+    Ok(bytes)
+}
+
+/// What the program does over a shelf with both files, whose call `failing_take` fails, and an output in
+/// pieces of 8 bytes, whose call `failing_write` fails; 0 for none.
+fn run_command(
+    alloc: Global,
+    words: &[&str],
+    files: Files,
+    failing_take: u64,
+    failing_write: u64,
+) -> Result<Ran, Fail> {
+    let mut own = Vec::new(alloc);
+    for word in words {
+        own.push(String::from_str(alloc, word)?)?;
+    }
+    let mut takes = Calls::new(alloc);
+    takes.add(failing_take)?;
+    let mut writes = Calls::new(alloc);
+    writes.add(failing_write)?;
+    let mut shelf = MemShelf::new(files, takes);
+    let mut out = MemSink::new(alloc, 8, writes);
+    let mut err = MemSink::new(alloc, 8, Calls::new(alloc));
+    let status = omni(alloc, &own, &mut shelf, &mut out, &mut err);
+    Ok(Ran {
+        status,
+        out: out.written().to_vec(alloc)?,
+        err: err.written().to_vec(alloc)?,
+    })
+}
+
+/// Both files, changed.
+fn files(alloc: Global, program: Option<Change>, log: Option<Change>) -> Result<Files, Fail> {
+    let mut files = Files::new(alloc);
+    files.add("program", changed(alloc, &PROGRAM, program)?.as_slice())?;
+    files.add("run.log", changed(alloc, &LOG, log)?.as_slice())?;
+    Ok(files)
+}
+
+#[test]
+fn the_answer_is_printed(rt: HostRuntime) -> Result<(), Fail> {
+    let words = ["query", "program", "run.log", SQL];
+    let done = run_command(rt.alloc(), &words, files(rt.alloc(), None, None)?, 0, 0)?;
+    assert_eq!(rt; done.status, 0);
+    assert_eq!(rt; done.out.as_slice(), ANSWER);
+    assert_eq!(rt; done.err.as_slice(), b"".as_slice());
+
+    // Faults of the outside: the second write, and the second take.
+    let cut = run_command(rt.alloc(), &words, files(rt.alloc(), None, None)?, 0, 2)?;
+    assert_eq!(rt; cut.status, 9);
+    assert_eq!(rt; cut.out.as_slice(), &ANSWER[..8]);
+    assert_eq!(rt; cut.err.as_slice(), b"omni: write\n".as_slice());
+    let unread = run_command(rt.alloc(), &words, files(rt.alloc(), None, None)?, 2, 0)?;
+    assert_eq!(rt; unread.status, 8);
+    assert_eq!(rt; unread.out.as_slice(), b"".as_slice());
+    assert_eq!(rt; unread.err.as_slice(), b"omni: read: run.log\n".as_slice());
+    let odd = ["query", "a\tb\\\u{7f}", "run.log", SQL];
+    let missing = run_command(rt.alloc(), &odd, files(rt.alloc(), None, None)?, 0, 0)?;
+    assert_eq!(rt; missing.status, 8);
+    assert_eq!(rt;
+        missing.err.as_slice(),
+        b"omni: read: a\\09b\\5c\\7f\n".as_slice()
+    );
+    Ok(())
+}
+
+#[test]
+fn each_part_that_is_not_built_is_told(rt: HostRuntime) -> Result<(), Fail> {
+    let rows = [
+        (
+            ["record", "program", "run.log", SQL],
+            None,
+            None,
+            b"omni: unbuilt: words\n".as_slice(),
+        ),
+        (
+            ["query", "program", "run.log", SQL],
+            Some(Change { at: 18, byte: 62 }),
+            None,
+            b"omni: unbuilt: executable\n".as_slice(),
+        ),
+        (
+            ["query", "program", "run.log", SQL],
+            None,
+            Some(Change { at: 20, byte: 2 }),
+            b"omni: unbuilt: log\n".as_slice(),
+        ),
+        (
+            ["query", "program", "run.log", "SELECT step FROM states"],
+            None,
+            None,
+            b"omni: unbuilt: query\n".as_slice(),
+        ),
+        (
+            ["query", "program", "run.log", SQL],
+            Some(Change { at: 84, byte: 0x17 }),
+            None,
+            b"omni: unbuilt: run\n".as_slice(),
+        ),
+    ];
+    for (words, program, log, line) in rows {
+        let end = run_command(rt.alloc(), &words, files(rt.alloc(), program, log)?, 0, 0)?;
+        assert_eq!(rt; end.status, 11);
+        assert_eq!(rt; end.out.as_slice(), b"".as_slice());
+        assert_eq!(rt; end.err.as_slice(), line);
+    }
+    Ok(())
+}
