@@ -20,6 +20,7 @@ pub fn value_at<'a, C: Cells>(expr: &'a Expr, cells: &'a C) -> Value<'a>
 {
     match expr {
         Expr::Column(column) if column.id.is_column() => cells.cell(column.table, column.id),
+        // No row has such a register.
         Expr::Column(_) => Value::Null,
         Expr::Numeral(number) => Value::Int(*number as i128),
     }

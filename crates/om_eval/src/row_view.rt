@@ -16,7 +16,7 @@ pub trait RowView {
         requires { IsColumn column }
         ensures { spec.owned result ≡ (answers self.now).cell column };
 
-    /// The little-endian number in `width` bytes of memory from `addr`.
+    /// The little-endian number in `width` bytes of memory from `addr`, NULL where one is unmapped.
     fn mem(&self, addr: u32, width: u8) -> Value<'_>
         requires { IsWidth width }
         ensures { spec.owned result ≡ (answers self.now).mem addr width };
