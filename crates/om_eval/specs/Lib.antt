@@ -1,0 +1,3 @@
+pub mod Looks
+pub mod Meaning
+pub mod Row

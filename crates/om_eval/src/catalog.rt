@@ -1,0 +1,20 @@
+//! The variables of a program that a query may name.
+
+use om_base::{Interval, Items, Text};
+
+/// What is known of all the variables of one name.
+#[derive(Debug, Drop)]
+pub struct VarInfo {
+    /// The name, after its function's name and a dot where it is local to one.
+    pub name: Text,
+    /// The numbers that it may hold, where its type is scalar.
+    pub scalar: Option<Interval>,
+    /// Whether several variables outside all functions have this name and differ in address, size or
+    /// sign.
+    pub ambiguous: bool,
+    /// Whether it has one address throughout the run.
+    pub fixed: bool,
+}
+
+/// The variables in order. [`ColumnId::Var`](crate::ColumnId::Var) has a place in this list.
+pub type Catalog = Items<VarInfo>;
