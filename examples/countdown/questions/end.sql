@@ -1,0 +1,1 @@
+SELECT step FROM states WHERE pc = 65556
