@@ -1,0 +1,96 @@
+-- What is wrong with a file that isn't a log: the first fault, from its first byte on.
+use Rattle.std.specs.Prelude.{◌≡◌, ◌≢◌, ℕ, ◌-◌, ◌<◌, ◌≤◌, List, [], ◌∷◌, ◌++◌, length, take, slice_index, ◌⊎◌}
+use Rattle.om_log.specs.Gate.{IsUnbuilt, AreBuilt}
+use Rattle.om_log.specs.Grammar.{spelling, spellings, header, Fits, HasCause, step_of, AreLawful, HasEnd, next_after}
+use Rattle.om_log.specs.Regions.{FitsStart, IsLawfulStart}
+use Rattle.om_log.specs.declared.entry.Entry.{Entry}
+use Rattle.om_log.specs.declared.fault.LogFault.{LogFault}
+use Rattle.om_log.specs.declared.fault.LogFault.TheVariants.{Short, Magic, Version, Kind, Order, NoEnd, Trailing, Region, Unbuilt}
+use Rattle.om_log.specs.declared.start.Start.{Start}
+
+-- ---- the header
+
+-- a file begins with a header that breaks the rules of the regions
+pub record HasUnlawfulHeader (file : List ℕ) : Type 0 where
+  pub start : Start
+  pub body : List ℕ
+  pub fits : FitsStart start
+  pub spelled : file ≡ header start ++ body
+  pub unlawful : IsLawfulStart start → ⊥
+
+-- the first rule of the header that a file breaks: its length, the letters OTL, the digit 1, the regions
+unfoldable pub IsHeaderFault : List ℕ → LogFault → Type 0
+IsHeaderFault file fault =
+    ((length file < 20) × (fault ≡ Short 0))
+    ⊎ (((20 ≤ length file) × (take 3 file ≢ 79 ∷ 84 ∷ 76 ∷ []) × (fault ≡ Magic))
+    ⊎ (((20 ≤ length file) × (take 3 file ≡ 79 ∷ 84 ∷ 76 ∷ []) × (slice_index file 3 ≢ 49) × (fault ≡ Version))
+    ⊎ (HasUnlawfulHeader file × (fault ≡ Region))))
+
+-- ---- the entries
+
+-- some bytes begin with no whole entry
+abbrev pub IsCut : List ℕ → Type 0
+IsCut rest = (entry : Entry) (tail : List ℕ) → Fits entry → rest ≡ spelling entry ++ tail → ⊥
+
+-- some bytes begin with an END that has no cause of the three, or is a cut with a value
+pub record HasNoCause (rest : List ℕ) : Type 0 where
+  pub entry : Entry
+  pub tail : List ℕ
+  pub fits : Fits entry
+  pub spelled : rest ≡ spelling entry ++ tail
+  pub causeless : HasCause entry → ⊥
+
+-- some bytes begin with an entry whose step is below this one
+pub record IsEarly (least : ℕ) (rest : List ℕ) : Type 0 where
+  pub entry : Entry
+  pub tail : List ℕ
+  pub fits : Fits entry
+  pub cause : HasCause entry
+  pub spelled : rest ≡ spelling entry ++ tail
+  pub early : step_of entry < least
+
+-- a byte is the kind of an entry
+abbrev pub IsKind : ℕ → Type 0
+IsKind kind = (1 ≤ kind) × (kind ≤ 3)
+
+-- the fault at an offset of bytes that begin with no entry: there are none, the kind is none, the entry isn't whole, or its cause is none
+abbrev pub IsNoEntry : ℕ → List ℕ → LogFault → Type 0
+IsNoEntry at [] fault = fault ≡ NoEnd
+IsNoEntry at (kind ∷ rest) fault =
+    ((IsKind kind → ⊥) × (fault ≡ Kind at))
+    ⊎ ((IsKind kind × IsCut (kind ∷ rest) × (fault ≡ Short at))
+    ⊎ (HasNoCause (kind ∷ rest) × (fault ≡ Kind at)))
+
+-- the fault at an offset of bytes that begin with no entry that may stand where no step below this one may
+unfoldable pub IsRefused : ℕ → ℕ → List ℕ → LogFault → Type 0
+IsRefused least at rest fault =
+    (IsUnbuilt rest × (fault ≡ Unbuilt at))
+    ⊎ ((IsUnbuilt rest → ⊥) × (IsNoEntry at rest fault ⊎ (IsEarly least rest × (fault ≡ Order at))))
+
+-- the fault at an offset of the bytes behind lawful entries: the entry there is refused, or the entries have ended
+unfoldable pub IsStop : List Entry → ℕ → List ℕ → LogFault → Type 0
+IsStop entries at rest fault =
+    ((HasEnd entries → ⊥) × IsRefused (next_after 0 entries) at rest fault)
+    ⊎ (HasEnd entries × (rest ≢ []) × (fault ≡ Trailing at))
+
+-- the fault of a file of this length with this body, which stands behind lawful entries
+pub record IsBodyFault (len : ℕ) (body : List ℕ) (fault : LogFault) : Type 0 where
+  pub entries : List Entry
+  pub rest : List ℕ
+  pub lawful : AreLawful 0 entries
+  pub built : AreBuilt entries
+  pub spelled : body ≡ spellings entries ++ rest
+  pub stop : IsStop entries (len - length rest) rest fault
+
+-- the fault of a file whose header is lawful
+pub record IsEntryFault (file : List ℕ) (fault : LogFault) : Type 0 where
+  pub start : Start
+  pub body : List ℕ
+  pub fits : FitsStart start
+  pub lawful : IsLawfulStart start
+  pub spelled : file ≡ header start ++ body
+  pub stops : IsBodyFault (length file) body fault
+
+-- the fault of a file
+abbrev pub IsFault : List ℕ → LogFault → Type 0
+IsFault file fault = IsHeaderFault file fault ⊎ IsEntryFault file fault

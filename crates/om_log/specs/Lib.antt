@@ -1,0 +1,10 @@
+pub mod Chunk
+pub mod Faults
+pub mod Fields
+pub mod Gate
+pub mod Grammar
+pub mod Held
+pub mod LittleEndian
+pub mod Reading
+pub mod Regions
+pub mod Steps
