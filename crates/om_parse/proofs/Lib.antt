@@ -1,0 +1,10 @@
+pub mod NumberLemmas
+pub mod PieceLemmas
+pub mod PieceLaws
+pub mod TokenLaws
+pub mod ListLemmas
+pub mod Runs
+pub mod Productions
+pub mod Takes
+pub mod ParseLaws
+pub mod TotalLaws

@@ -1,0 +1,7 @@
+pub mod Terminals
+pub mod Numerals
+pub mod Tokens
+pub mod Grammar
+pub mod Refusals
+pub mod Cutting
+pub mod Reading

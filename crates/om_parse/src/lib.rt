@@ -1,0 +1,32 @@
+//! The query language, a subset of SQL-92: tokens, the tree of a query, and the parser.
+//!
+//! A query is a list of columns, one table, and an optional condition of comparisons joined by AND:
+//!
+//! ```text
+//! query  = SELECT column {, column} FROM regular [WHERE test {AND test}]
+//! test   = column op numeral
+//! op     = "=" | "<>" | "<" | "<=" | ">" | ">="
+//! column = regular
+//! ```
+//!
+//! [`parse`] gives the tree of a text, or the one place at which no query goes on.
+#![tactic(auto)]
+
+mod cursor;
+mod fault;
+mod grammar;
+mod laws;
+mod numeral;
+mod piece;
+mod query;
+mod terminal;
+#[cfg(test)]
+mod tests;
+mod token;
+mod tokenizer;
+mod tree;
+
+pub use fault::ParseFault;
+pub use laws::{never_both, one_refusal, one_token_list, one_tree, tree_or_refusal};
+pub use query::parse;
+pub use tree::{ColumnName, CompareOp, CondTree, ExprTree, Item, Numeral, Query, TableName};

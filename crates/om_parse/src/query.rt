@@ -1,0 +1,60 @@
+//! Reads a query from its text.
+
+ghost use Rattle.std.specs.Prelude.{◌≡◌, ◌≢◌, ◌≤◌, length, IfOk, IfErr};
+ghost use Rattle.om_parse.specs.declared.tree.Query.{Query};
+ghost use Rattle.om_parse.specs.declared.fault.ParseFault.{ParseFault};
+ghost use Rattle.om_parse.specs.Grammar.{IsQuery};
+ghost use Rattle.om_parse.specs.Refusals.{HasTree, IsRefusal, Answers};
+ghost use Rattle.om_parse.specs.Reading.{IsTokenFault};
+
+use crate::cursor::{Cursor, Stop};
+use crate::fault::ParseFault;
+use crate::token::Token;
+use crate::tree::Query;
+use crate::{grammar, tokenizer};
+use std::alloc::Global;
+
+/// The most bytes that the text of a query may have.
+const MAX_LENGTH: usize = 16384;
+
+/// The tree of a list of tokens, whose text has `end` bytes.
+fn parse_tokens<'a>(alloc: Global, tokens: &[Token<'a>], end: u32) -> Result<Query<'a>, ParseFault>
+    ensures tree { IfOk result (λ query. IsQuery tokens.now query) }
+    ensures fault { IfErr result (λ fault. IsTokenFault tokens.now end fault) }
+{
+    let mut cursor = Cursor::new(tokens);
+    match grammar::whole(alloc, &mut cursor) {
+        Ok(query) => Ok(query),
+        Err(Stop::NoMemory) => Err(ParseFault::NoMemory),
+        Err(Stop::Wrong) => Err(ParseFault::Syntax {
+            at: cursor.place(end),
+        }),
+    }
+}
+
+/// The tree of `text`, or why it has none.
+fn read<'a>(alloc: Global, text: &'a [u8]) -> Result<Query<'a>, ParseFault>
+    ensures tree { IfOk result (λ query. HasTree text.now query) }
+    ensures fault { IfErr result (λ fault. fault ≢ ParseFault.NoMemory → IsRefusal text.now fault) }
+{
+    if text.len() > MAX_LENGTH {
+        return Err(ParseFault::TooWide {
+            length: text.len() as u64,
+        });
+    }
+    let tokens = tokenizer::tokens(alloc, text)?;
+    parse_tokens(alloc, tokens.as_slice(), text.len() as u32)
+}
+
+/// The tree of the query that `text` spells. Its names are parts of `text`.
+pub fn parse<'a>(alloc: Global, text: &'a [u8]) -> Result<Query<'a>, ParseFault>
+    // What is read is a tree of the text, and what is refused is refused there.
+    ensures tree { IfOk result (λ query. HasTree text.now query) }
+    ensures fault { IfErr result (λ fault. fault ≢ ParseFault.NoMemory → IsRefusal text.now fault) }
+
+    // A text that has a tree is read, and one that has a refusal is refused so, unless memory runs out.
+    ensures finds { (query : Query) → HasTree text.now query → Answers result (Ok query) }
+    ensures refuses { (fault : ParseFault) → IsRefusal text.now fault → Answers result (Err fault) }
+{
+    read(alloc, text)
+}

@@ -1,0 +1,159 @@
+//! Texts and what they are: the tree with its offsets, or the fault.
+
+use crate::{ColumnName, CompareOp, CondTree, ExprTree, ParseFault, Query, parse};
+use om_base::{NoMemory, Text, put_decimal};
+use std::test::Fail;
+
+fn show_name(shown: &mut Text, at: u32, name: &[u8]) -> Result<(), NoMemory> {
+    shown.add(b" ")?;
+    put_decimal(shown, i128::from(at))?;
+    shown.add(b":")?;
+    shown.add(name)
+}
+
+fn show_expr(shown: &mut Text, expr: &ExprTree<'_>) -> Result<(), NoMemory> {
+    match expr {
+        ExprTree::Column(ColumnName { at, name }) => show_name(shown, *at, name.bytes()),
+        ExprTree::Numeral(numeral) => {
+            show_name(shown, numeral.at, b"#")?;
+            put_decimal(shown, i128::from(numeral.value))
+        }
+    }
+}
+
+fn sign(op: CompareOp) -> &'static [u8] {
+    match op {
+        CompareOp::Equal => b"=",
+        CompareOp::NotEqual => b"<>",
+        CompareOp::Less => b"<",
+        CompareOp::LessOrEqual => b"<=",
+        CompareOp::Greater => b">",
+        CompareOp::GreaterOrEqual => b">=",
+    }
+}
+
+/// A comparison, and of a list its comparisons.
+fn show_cond(shown: &mut Text, cond: &CondTree<'_>) -> Result<(), NoMemory> {
+    match cond {
+        CondTree::Compare {
+            at,
+            op,
+            left,
+            right,
+        } => {
+            show_expr(shown, left)?;
+            show_name(shown, *at, sign(*op))?;
+            show_expr(shown, right)
+        }
+        CondTree::All(tests) => {
+            shown.add(b" all")?;
+            for test in tests.as_slice() {
+                show_cond(shown, test)?;
+            }
+            Ok(())
+        }
+    }
+}
+
+fn show_query(shown: &mut Text, query: &Query<'_>) -> Result<(), NoMemory> {
+    for item in query.items.as_slice() {
+        show_expr(shown, &item.expr)?;
+    }
+    shown.add(b" from")?;
+    for table in query.tables.as_slice() {
+        show_name(shown, table.at, table.name.bytes())?;
+    }
+    if let Some(cond) = &query.filter {
+        shown.add(b" where")?;
+        show_cond(shown, cond)?;
+    }
+    Ok(())
+}
+
+fn show_fault(shown: &mut Text, fault: ParseFault) -> Result<(), NoMemory> {
+    match fault {
+        ParseFault::NoMemory => shown.add(b" no memory"),
+        ParseFault::Syntax { at } => show_name(shown, at, b"syntax"),
+        ParseFault::TooWide { length } => {
+            shown.add(b" too wide ")?;
+            put_decimal(shown, i128::from(length))
+        }
+    }
+}
+
+// Offsets are counted by hand, from 0.
+#[test]
+fn texts_have_these_trees_and_faults(rt: HostRuntime) -> Result<(), Fail> {
+    let rows = [
+        // Trees.
+        (
+            "SELECT step FROM states WHERE pc = 65544",
+            " 7:step from 17:states where 30:pc 33:= 35:#65544",
+        ),
+        (
+            "select Step, PC from STATES",
+            " 7:Step 13:PC from 21:STATES",
+        ),
+        (
+            "SELECT a FROM b WHERE c<=0x1F AND d<>2 AND e>=18446744073709551615",
+            " 7:a from 14:b where all 22:c 23:<= 25:#31 34:d 35:<> 37:#2 43:e 44:>= 46:#18446744073709551615",
+        ),
+        (
+            "SELECT--all\n\ta--\r\n,b_1 FROM s--",
+            " 13:a 19:b_1 from 28:s",
+        ),
+        (
+            "SELECT a FROM s WHERE b<007 AnD c>0XfF",
+            " 7:a from 14:s where all 22:b 23:< 24:#7 32:c 33:> 34:#255",
+        ),
+        ("SELECT a FROM anything", " 7:a from 14:anything"),
+        // Bytes that begin no token, told before any token that doesn't fit.
+        ("SELECT a FROM s; #", " 17:syntax"),
+        ("FROM 'unfinished", " 5:syntax"),
+        ("SELECT \"unfinished\"\" FROM s", " 7:syntax"),
+        ("SELECT \"\" FROM s", " 7:syntax"),
+        ("SELECT a FROM s WHERE a = 1a", " 26:syntax"),
+        ("SELECT a FROM s WHERE a = 0x", " 26:syntax"),
+        (
+            "SELECT a FROM s WHERE a = 18446744073709551616",
+            " 26:syntax",
+        ),
+        ("SELECT é FROM s", " 7:syntax"),
+        ("SELECT a\0 FROM s", " 8:syntax"),
+        // The first token that doesn't fit, or the end.
+        ("", " 0:syntax"),
+        ("  -- nothing", " 12:syntax"),
+        ("SELECT", " 6:syntax"),
+        ("SELECT a,", " 9:syntax"),
+        ("SELECT a, FROM s", " 10:syntax"),
+        ("SELECT a states", " 9:syntax"),
+        ("SELECT count FROM s", " 7:syntax"),
+        ("SELECT \"a\" FROM s", " 7:syntax"),
+        ("SELECT a FROM s WHERE", " 21:syntax"),
+        ("SELECT a FROM s WHERE a = b", " 26:syntax"),
+        ("SELECT a FROM s WHERE a =< 1", " 25:syntax"),
+        ("SELECT a FROM s WHERE a = 1 OR b = 2", " 28:syntax"),
+        ("SELECT a FROM s WHERE a = 1 AND", " 31:syntax"),
+        ("SELECT a FROM s 'it''s'", " 16:syntax"),
+        ("SELECT a FROM s SELECT a FROM s", " 16:syntax"),
+    ];
+    for (text, want) in rows {
+        let mut shown = Text::copy_of(rt.alloc(), b"")?;
+        match parse(rt.alloc(), text.as_bytes()) {
+            Ok(query) => show_query(&mut shown, &query)?,
+            Err(fault) => show_fault(&mut shown, fault)?,
+        }
+        assert_eq!(rt; shown.bytes(), want.as_bytes(), "of {text}");
+    }
+    Ok(())
+}
+
+#[test]
+fn a_text_has_16384_bytes_at_most(rt: HostRuntime) -> Result<(), Fail> {
+    let spaces = vec![in rt.alloc(); b' '; 16385]?;
+    let wide = parse(rt.alloc(), spaces.as_slice());
+    assert_eq!(rt; wide.err(), Some(ParseFault::TooWide { length: 16385 }));
+    let widest = parse(rt.alloc(), &spaces[1..]);
+    assert_eq!(rt; widest.err(), Some(ParseFault::Syntax { at: 16384 }));
+    Ok(())
+}
