@@ -4,7 +4,7 @@ use Rattle.std.specs.Prelude.{Option, Result}
 use Rattle.om_io.specs.Writing.{Puts}
 use Rattle.om_io.proofs.PutsLemmas.{puts_then, puts_stops}
 use Rattle.om_io.specs.declared.sink.SinkFail.{SinkFail}
-use Rattle.om_cli.specs.Result.{escaped, escaped_byte}
+use Rattle.om_table.specs.Escape.{escaped, escaped_byte}
 
 -- a name is the bytes before one of them, that one, and those after it
 escaped_split : (name : List ℕ) (i d : ℕ) → i < length name

@@ -1,2 +1,5 @@
-pub mod RunLemmas
 pub mod EscapedLemmas
+pub mod RowsLemmas
+pub mod SomesLemmas
+pub mod NamedLemmas
+pub mod AnswerLemmas

@@ -1,17 +1,31 @@
--- What a command means, as a function of its words and of the files that it names.
-use Rattle.std.specs.Prelude.{ℕ, ◌<◌, nat_lt, nat_eq, bytes_eq, codes, Bool, if◌then◌else◌, List, [], ◌∷◌, length, Option, Some, None}
-use Rattle.om_io.specs.Shelf.{Contents}
+-- What a command means, as a function of its words, of the files that it names, and of what these say.
+use Rattle.std.specs.Prelude.{ℕ, ◌+◌, nat_lt, bytes_eq, codes, if◌then◌else◌, List, [], ◌∷◌, length, map, filter, Option, Some, None, Result, Ok, Err}
 use Rattle.om_elf.specs.Executable.{elf_of}
 use Rattle.om_elf.specs.declared.elf.Elf.{Elf}
+use Rattle.om_eval.specs.Meaning.{truth}
+use Rattle.om_eval.specs.Row.{Row, row_tuple}
+use Rattle.om_eval.specs.declared.cond.Cond.{Cond}
+use Rattle.om_io.specs.Shelf.{Contents}
+use Rattle.om_log.specs.declared.entry.Entry.{Entry}
+use Rattle.om_log.specs.declared.fault.LogFault.{LogFault}
+use Rattle.om_log.specs.declared.fault.LogFault.TheVariants as log
+use Rattle.om_log.specs.declared.log.Log.{Log}
+use Rattle.om_parse.specs.declared.fault.ParseFault.{ParseFault}
+use Rattle.om_parse.specs.declared.tree.Query.{Query}
+use Rattle.om_run.specs.Departure.{halt_of}
+use Rattle.om_run.specs.Run.{end_of, state_at, below}
+use Rattle.om_run.specs.declared.departure.Halt.{Halt}
+use Rattle.om_run.specs.declared.departure.Halt.TheVariants as halt
 use Rattle.om_step.specs.Contents.{overlap_of}
 use Rattle.om_step.specs.First.{first_state, regions_of}
-use Rattle.om_cli.specs.Log.{log_of}
-use Rattle.om_cli.specs.Query.{pc_of}
-use Rattle.om_cli.specs.Run.{is_run, rows_at}
-use Rattle.om_cli.specs.Text.{text_of}
-use Rattle.om_cli.specs.declared.part.Part.{Part}
-use Rattle.om_cli.specs.declared.part.Part.TheVariants.{Words, Executable, Log, Query, Run}
-use Rattle.om_cli.specs.declared.short_log.ShortLog.{ShortLog}
+use Rattle.om_step.specs.State.{State}
+use Rattle.om_cli.specs.declared.refusal.Part.{Part}
+use Rattle.om_cli.specs.declared.refusal.Part.TheVariants as part
+use Rattle.om_cli.specs.declared.refusal.Refusal.{Refusal}
+use Rattle.om_cli.specs.declared.refusal.Refusal.TheVariants as refusal
+use Rattle.om_cli.specs.Answer.{answer_text}
+use Rattle.om_cli.specs.Asked.{question_in}
+use Rattle.om_cli.specs.declared.asked.Question.{Question}
 
 -- the words of a command that is built: the names of an executable and of a log, and a query
 pub record Asked : Type 0 where
@@ -52,8 +66,8 @@ seen_in (Some files) name = seen_of (files name)
 pub data Outcome : Type 0 where
   -- it prints a text
   prints : List ℕ → Outcome
-  -- it is refused, since this part isn't built
-  refuses : Part → Outcome
+  -- it is refused
+  refuses : Refusal → Outcome
   -- it needs a file that isn't there
   misses : List ℕ → Outcome
   -- it depends on contents that aren't told
@@ -62,43 +76,67 @@ pub data Outcome : Type 0 where
 -- a file is read, and then comes what follows with its bytes
 abbrev pub read_then : List ℕ → Part → Seen → (List ℕ → Outcome) → Outcome
 read_then name part (found bytes) following = following bytes
-read_then name part longer following = refuses part
+read_then name part longer following = refuses (refusal.Unbuilt part)
 read_then name part missing following = misses name
 read_then name part untold following = depends
 
--- the text, where the log matches its run
-abbrev pub answered_by : Elf → ShortLog → ℕ → Outcome
-answered_by elf log pc =
-    if is_run log (first_state elf log.start) then prints (text_of (rows_at log (first_state elf log.start) pc)) else refuses Run
+-- the greatest number of steps that are replayed
+abbrev pub most_steps : ℕ
+most_steps = 4000000
 
--- in the order in which it is judged: the log, where no regions overlap, then the query, then the run
-abbrev pub judged_query : Elf → ShortLog → Option ℕ → Outcome
-judged_query elf log None = refuses Query
-judged_query elf log (Some pc) = answered_by elf log pc
+-- a run that stops before its end is refused, and one that ends has its answer
+abbrev pub ended_by : Option Halt → List ℕ → Outcome
+ended_by None text = prints text
+ended_by (Some halt.Ended) text = prints text
+ended_by (Some (halt.Departs departure)) text = refuses (refusal.Departs departure)
+ended_by (Some halt.Unbuilt) text = refuses (refusal.Unbuilt part.Run)
 
-abbrev pub judged_overlap : Elf → ShortLog → Option (ℕ × ℕ) → List ℕ → Outcome
-judged_overlap elf log None sql = judged_query elf log (pc_of sql)
-judged_overlap elf log (Some pair) sql = refuses Log
+-- what a question about a run comes to
+abbrev pub judged_run : List Entry → State → Question → Outcome
+judged_run entries first question =
+    let last = (end_of entries).step in
+    if nat_lt most_steps last
+    then refuses (refusal.TooLong last)
+    else ended_by (halt_of entries first) (answer_text entries first question)
 
-abbrev pub judged_log : Elf → Option ShortLog → List ℕ → Outcome
-judged_log elf None sql = refuses Log
-judged_log elf (Some log) sql = judged_overlap elf log (overlap_of (regions_of elf.segments log.start)) sql
+-- the query is judged where no regions overlap, and the run where the query is one that is built
+abbrev pub judged_query : List Entry → State → Option Question → Outcome
+judged_query entries first None = refuses (refusal.Unbuilt part.Query)
+judged_query entries first (Some question) = judged_run entries first question
 
-abbrev pub judged_elf : Option Elf → Option ShortLog → List ℕ → Outcome
-judged_elf None log sql = refuses Executable
-judged_elf (Some elf) log sql = judged_log elf log sql
+abbrev pub judged_overlap : Option (ℕ × ℕ) → Elf → Log → Option Question → Outcome
+judged_overlap (Some pair) elf log question = refuses (refusal.Unbuilt part.Log)
+judged_overlap None elf log question = judged_query log.entries (first_state elf log.start) question
 
--- what a query over the bytes of an executable and of a log comes to
-unfoldable pub judged : List ℕ → List ℕ → List ℕ → Outcome
-judged exe log sql = judged_elf (elf_of exe) (log_of log) sql
+-- the question that a query's text is, if it is one that is built
+abbrev pub question_of : Result Query ParseFault → Option Question
+question_of (Ok query) = question_in query
+question_of (Err fault) = None
 
--- what the words come to over the files that are told
-abbrev pub outcome_for : Option Asked → Option Contents → Outcome
-outcome_for None files = refuses Words
-outcome_for (Some asked) files =
-    read_then asked.exe Executable (seen_in files asked.exe) (λ exe.
-    read_then asked.log Log (seen_in files asked.log) (λ log.
-    judged exe log asked.sql))
+-- the refusal of a log
+abbrev pub refused_log : LogFault → Refusal
+refused_log (log.Unbuilt at) = refusal.Unbuilt part.Log
+refused_log fault = refusal.Log fault
 
-abbrev pub outcome_of : List (List ℕ) → Option Contents → Outcome
-outcome_of words files = outcome_for (asked_by words) files
+abbrev pub judged_log : Elf → Result Log LogFault → Option Question → Outcome
+judged_log elf (Err fault) question = refuses (refused_log fault)
+judged_log elf (Ok log) question = judged_overlap (overlap_of (regions_of elf.segments log.start)) elf log question
+
+abbrev pub judged_elf : Option Elf → Result Log LogFault → Option Question → Outcome
+judged_elf None log question = refuses (refusal.Unbuilt part.Executable)
+judged_elf (Some elf) log question = judged_log elf log question
+
+-- what a query comes to over the bytes of an executable, a log and a query, as these are read
+unfoldable pub judged : List ℕ → Result Log LogFault → Result Query ParseFault → Outcome
+judged exe log query = judged_elf (elf_of exe) log (question_of query)
+
+-- what the words come to over the files that are told, where the log and the query are read so
+abbrev pub outcome_for : Option Asked → Option Contents → Result Log LogFault → Result Query ParseFault → Outcome
+outcome_for None files log query = refuses (refusal.Unbuilt part.Words)
+outcome_for (Some asked) files log query =
+    read_then asked.exe part.Executable (seen_in files asked.exe) (λ exe.
+    read_then asked.log part.Log (seen_in files asked.log) (λ bytes.
+    judged exe log query))
+
+abbrev pub outcome_of : List (List ℕ) → Option Contents → Result Log LogFault → Result Query ParseFault → Outcome
+outcome_of words files log query = outcome_for (asked_by words) files log query

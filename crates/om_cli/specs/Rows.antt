@@ -1,13 +1,25 @@
 -- What a replay answers.
-use Rattle.std.specs.Prelude.{◌≡◌, ℕ, true, false, List, Result, Ok, Err}
+use Rattle.std.specs.Prelude.{◌≡◌, ℕ, List, Option, Some, None, Result, Ok, Err}
+use Rattle.om_eval.specs.declared.value.Owned.{Owned}
+use Rattle.om_log.specs.declared.entry.Entry.{Entry}
+use Rattle.om_run.specs.Departure.{halt_of}
+use Rattle.om_run.specs.declared.departure.Halt.{Halt}
+use Rattle.om_run.specs.declared.departure.Halt.TheVariants as halt
 use Rattle.om_step.specs.State.{State}
-use Rattle.om_cli.specs.Run.{is_run, rows_at}
-use Rattle.om_cli.specs.declared.run.RunFault.{RunFault}
-use Rattle.om_cli.specs.declared.run.RunFault.TheVariants.{NoMemory, Unbuilt}
-use Rattle.om_cli.specs.declared.short_log.ShortLog.{ShortLog}
+use Rattle.om_cli.specs.Answer.{answer_rows}
+use Rattle.om_cli.specs.declared.asked.Question.{Question}
+use Rattle.om_cli.specs.declared.rows.Stopped.{Stopped}
+use Rattle.om_cli.specs.declared.rows.Stopped.TheVariants.{NoMemory, Departs, Unbuilt}
 
--- the answer is the rows of a run that the log matches, a refusal where it doesn't, or want of memory
-abbrev pub GivesRows : ShortLog → State → ℕ → Result (List ℕ) RunFault → Type 0
-GivesRows log first pc (Ok rows) = (is_run log first ≡ true) × (rows ≡ rows_at log first pc)
-GivesRows log first pc (Err NoMemory) = Unit {0}
-GivesRows log first pc (Err Unbuilt) = is_run log first ≡ false
+-- the answer is the rows of a run that comes to its end, why one stops before, or want of memory
+abbrev pub GivesRows : List Entry → State → Question → Result (List (List Owned)) Stopped → Type 0
+GivesRows entries first question (Ok rows) = (halt_of entries first ≡ None) × (rows ≡ answer_rows entries first question)
+GivesRows entries first question (Err NoMemory) = Unit {0}
+GivesRows entries first question (Err (Departs departure)) = halt_of entries first ≡ Some (halt.Departs departure)
+GivesRows entries first question (Err Unbuilt) = halt_of entries first ≡ Some halt.Unbuilt
+
+-- why a halt stops the run before its end, if it does
+abbrev pub stopped : Halt → Option Stopped
+stopped halt.Ended = None
+stopped (halt.Departs departure) = Some (Departs departure)
+stopped halt.Unbuilt = Some Unbuilt

@@ -1,22 +1,122 @@
 //! Answers a query over the bytes of an executable and of a log.
 
-ghost use Rattle.om_cli.specs.Outcome.{judged};
-ghost use Rattle.om_cli.specs.Reads.{GivesText};
+ghost use Rattle.std.specs.Prelude.{◌≡◌, Result, IfErr, IfOk, IfSome};
+ghost use Rattle.om_cli.specs.Named.{IsNamed};
+ghost use Rattle.om_cli.specs.Outcome as spec;
+ghost use Rattle.om_cli.specs.Outcome.{judged, judged_overlap, judged_run};
+ghost use Rattle.om_cli.specs.Readings.{IsLogReading, IsQueryReading};
+ghost use Rattle.om_cli.specs.Reads as reads;
+ghost use Rattle.om_cli.specs.Reads.{GivesText, HasRead};
+ghost use Rattle.om_elf.specs.Image.{AreLoadable};
+ghost use Rattle.om_log.specs.Gate.{AreBuilt};
+ghost use Rattle.om_log.specs.Grammar.{IsLawfulLog};
+ghost use Rattle.om_log.specs.declared.fault.LogFault.{LogFault};
+ghost use Rattle.om_log.specs.declared.log.Log.{Log};
+ghost use Rattle.om_parse.specs.declared.fault.ParseFault.{ParseFault};
+ghost use Rattle.om_parse.specs.declared.tree.Query.{Query};
+ghost use Rattle.om_step.specs.Contents.{overlap_of};
+ghost use Rattle.om_step.specs.First.{regions_of};
 
-use crate::part::Part;
-use crate::printing::table_text;
-use crate::query::read_query;
+use crate::asked::{Question, question_of};
+use crate::refusal::{Part, Refusal};
 use crate::refused::Refused;
-use crate::run::{RunFault, rows_of};
-use crate::short_log::read_log;
-use om_base::Text;
-use om_elf::{ElfFault, read_elf};
-use om_step::{Machine, MapFault};
+use crate::rows::{Stopped, rows_of};
+use om_base::{NoMemory, Text};
+use om_elf::{Elf, ElfFault, read_elf};
+use om_log::{Log, LogFault, read_log};
+use om_parse::{ParseFault, parse};
+use om_run::Replay;
+use om_step::MapFault;
+use om_table::{Style, Table, TableFault, print_table};
 use std::alloc::Global;
 
-/// The text of the answer.
-///
-/// The parts are judged in the order executable, log, query, run.
+/// The greatest number of steps that are replayed.
+const MOST_STEPS: u64 = 4_000_000;
+
+/// The question that a text is; none where it is none that is built.
+fn read_question(alloc: Global, sql: &[u8]) -> Result<Option<Question>, NoMemory>
+    ensures question { (query : Result Query ParseFault) → IsQueryReading sql.now query
+        → IfOk result (λ question. question ≡ spec.question_of query) }
+    ensures named { IfOk result (λ question. IfSome question IsNamed) }
+{
+    match parse(alloc, sql) {
+        Ok(query) => question_of(alloc, &query),
+        Err(ParseFault::NoMemory) => Err(NoMemory),
+        Err(ParseFault::Syntax { .. } | ParseFault::TooWide { .. }) => Ok(None),
+    }
+}
+
+/// The text of the answer to a question about a run, from a replay that stands at its first state.
+fn answer_run<'a>(
+    alloc: Global,
+    replay: &mut Replay<'_>,
+    question: Question,
+) -> Result<Text, Refused<'a>>
+    requires first { replay.old.step ≡ 0 }
+    requires named { IsNamed question }
+    ensures text { GivesText (judged_run replay.old.entries replay.old.first question) result }
+    ensures read { IfErr result HasRead }
+{
+    let steps = replay.last();
+    if steps > MOST_STEPS {
+        return Err(Refused::Because(Refusal::TooLong { steps }));
+    }
+    let rows = match rows_of(alloc, replay, &question) {
+        Ok(rows) => rows,
+        Err(Stopped::NoMemory) => return Err(Refused::NoMemory),
+        Err(Stopped::Departs(departure)) => return Err(Refused::Because(Refusal::Departs(
+            departure,
+        ))),
+        Err(Stopped::Unbuilt) => return Err(Refused::Because(Refusal::Unbuilt(Part::Run))),
+    };
+    let table = Table {
+        names: question.names,
+        rows,
+    };
+    match print_table(alloc, &table, Style::Columns, u64::MAX) {
+        Ok(text) => Ok(text),
+        Err(TableFault::NoMemory | TableFault::TooManyBytes { .. }) => Err(Refused::NoMemory),
+    }
+}
+
+/// The text of the answer to a query about the run of a log.
+fn answer_query<'a>(
+    alloc: Global,
+    elf: &Elf<'_>,
+    log: &Log<'_>,
+    sql: &[u8],
+) -> Result<Text, Refused<'a>>
+    requires loadable { AreLoadable elf.now.segments }
+    requires lawful { IsLawfulLog log.now }
+    requires built { AreBuilt log.now.entries }
+    ensures read { IfErr result HasRead }
+    ensures text { (query : Result Query ParseFault) → IsQueryReading sql.now query
+        → GivesText (judged_overlap (overlap_of (regions_of elf.now.segments log.now.start)) elf.now log.now (spec.question_of query)) result }
+{
+    let mut replay = match Replay::start(alloc, elf, log) {
+        Ok(replay) => replay,
+        Err(MapFault::NoMemory) => return Err(Refused::NoMemory),
+        Err(MapFault::Overlap { .. }) => return Err(Refused::Because(Refusal::Unbuilt(Part::Log))),
+    };
+    match read_question(alloc, sql) {
+        Ok(Some(question)) => answer_run(alloc, &mut replay, question),
+        Ok(None) => Err(Refused::Because(Refusal::Unbuilt(Part::Query))),
+        Err(_) => Err(Refused::NoMemory),
+    }
+}
+
+/// What a fault of a log comes to.
+fn refused_by<'a>(fault: LogFault) -> Refused<'a>
+    ensures { result ≡ reads.refused_by fault }
+{
+    match fault {
+        LogFault::NoMemory => Refused::NoMemory,
+        LogFault::Unbuilt { .. } => Refused::Because(Refusal::Unbuilt(Part::Log)),
+        _ => Refused::Because(Refusal::Log(fault)),
+    }
+}
+
+/// The text of the answer, where the parts are judged in the order executable, log, query, run.
 #[tactic(auto, unfolding(crate::specs::Outcome::judged))]
 pub fn answer_text<'a>(
     alloc: Global,
@@ -24,31 +124,17 @@ pub fn answer_text<'a>(
     log: &[u8],
     sql: &[u8],
 ) -> Result<Text, Refused<'a>>
-    ensures { GivesText (judged exe.now log.now sql.now) result }
+    ensures read { IfErr result HasRead }
+    ensures text { (log_read : Result Log LogFault) (query : Result Query ParseFault) → IsLogReading log.now log_read
+        → IsQueryReading sql.now query → GivesText (judged exe.now log_read query) result }
 {
     let elf = match read_elf(alloc, exe) {
         Ok(elf) => elf,
         Err(ElfFault::NoMemory) => return Err(Refused::NoMemory),
-        Err(ElfFault::Unbuilt) => return Err(Refused::Unbuilt(Part::Executable)),
+        Err(ElfFault::Unbuilt) => return Err(Refused::Because(Refusal::Unbuilt(Part::Executable))),
     };
-    let Some(log) = read_log(log) else {
-        return Err(Refused::Unbuilt(Part::Log));
-    };
-    let mut machine = match Machine::load(alloc, &elf, log.start) {
-        Ok(machine) => machine,
-        Err(MapFault::NoMemory) => return Err(Refused::NoMemory),
-        Err(MapFault::Overlap { .. }) => return Err(Refused::Unbuilt(Part::Log)),
-    };
-    let Some(pc) = read_query(sql) else {
-        return Err(Refused::Unbuilt(Part::Query));
-    };
-    let rows = match rows_of(alloc, &mut machine, &log, pc) {
-        Ok(rows) => rows,
-        Err(RunFault::NoMemory) => return Err(Refused::NoMemory),
-        Err(RunFault::Unbuilt) => return Err(Refused::Unbuilt(Part::Run)),
-    };
-    match table_text(alloc, rows.as_slice()) {
-        Ok(text) => Ok(text),
-        Err(_) => Err(Refused::NoMemory),
+    match read_log(alloc, log) {
+        Ok(log) => answer_query(alloc, &elf, &log, sql),
+        Err(fault) => Err(refused_by(fault)),
     }
 }

@@ -1,78 +1,29 @@
 //! How the program ends: its status, and the line that it tells on standard error.
 
-ghost use Rattle.std.specs.Prelude.{◌≡◌, ◌<◌, [], ◌∷◌, ◌++◌, codes};
+ghost use Rattle.std.specs.Prelude.{◌≡◌, [], ◌∷◌, ◌++◌, codes};
 ghost use Rattle.om_cli.specs.Ends.{end_of};
-ghost use Rattle.om_cli.specs.Result.{escaped, escaped_byte, hex_digit, line_of, status_of, word_of};
+ghost use Rattle.om_cli.specs.Lines.{line_of, status_of};
+ghost use Rattle.om_table.specs.Escape.{escaped};
 ghost use Rattle.om_io.specs.Writing.{Puts, Tells};
 
-use crate::part::Part;
-use om_io::{Sink, SinkFail, put_all, put_pieces};
+use crate::escaping::put_escaped;
+use crate::lines::put_refusal;
+use crate::refusal::Refusal;
+use om_io::{Sink, SinkFail, put_all};
 
 /// How the program ends.
 #[derive(Clone, Copy, Debug)]
 pub enum Ending<'a> {
     /// All was printed.
     Done,
-    /// This part isn't built.
-    Unbuilt(Part),
+    /// There is no answer.
+    Refused(Refusal),
     /// No memory was left.
     NoMemory,
     /// The file of this name was not read.
     Unread(&'a str),
     /// The text was not written.
     Unwritten,
-}
-
-impl Part {
-    /// The word for the part.
-    fn word(&self) -> &'static [u8]
-        ensures { result.now ≡ word_of self.now }
-    {
-        match self {
-            Part::Words => b"words",
-            Part::Executable => b"executable",
-            Part::Log => b"log",
-            Part::Query => b"query",
-            Part::Run => b"run",
-        }
-    }
-}
-
-/// A hexadecimal digit, in lower case.
-fn hex(digit: u8) -> u8
-    requires { digit < 16 }
-    ensures { result ≡ hex_digit digit }
-{
-    if digit < 10 {
-        b'0' + digit
-    } else {
-        b'a' - 10 + digit
-    }
-}
-
-/// Writes a byte of a name as it is printed.
-fn put_escaped_byte<P: Sink>(sink: &mut P, byte: u8) -> Result<(), SinkFail>
-    ensures { Puts (P.written sink.old) (P.written sink.new) (P.faults sink.old) (P.faults sink.new)
-        (P.refused_growths sink.old) (P.refused_growths sink.new) (escaped_byte byte) result }
-{
-    if byte < 32 || byte == 127 || byte == b'\\' {
-        return put_all(sink, &[b'\\', hex(byte / 16), hex(byte % 16)]);
-    }
-    put_all(sink, &[byte])
-}
-
-/// Writes a name as it is printed.
-fn put_escaped<P: Sink>(sink: &mut P, name: &[u8]) -> Result<(), SinkFail>
-    ensures { Puts (P.written sink.old) (P.written sink.new) (P.faults sink.old) (P.faults sink.new)
-        (P.refused_growths sink.old) (P.refused_growths sink.new) (escaped name.now) result }
-{
-    for byte in name {
-        match put_escaped_byte(sink, *byte) {
-            Ok(()) => {}
-            Err(fail) => return Err(fail),
-        }
-    }
-    Ok(())
 }
 
 /// Writes the line of a file that was not read.
@@ -102,22 +53,19 @@ impl Ending<'_> {
             Ending::Unread(_) => 8,
             Ending::Unwritten => 9,
             Ending::NoMemory => 10,
-            Ending::Unbuilt(_) => 11,
+            Ending::Refused(refusal) => refusal.status(),
         }
     }
 
     /// Writes the line of the ending, if it has one.
-    #[tactic(auto, unfolding(crate::specs::Result::line_of))]
+    #[tactic(auto, unfolding(crate::specs::Lines::line_of))]
     fn put<P: Sink>(&self, sink: &mut P) -> Result<(), SinkFail>
         ensures { Puts (P.written sink.old) (P.written sink.new) (P.faults sink.old) (P.faults sink.new)
             (P.refused_growths sink.old) (P.refused_growths sink.new) (line_of (end_of self.now)) result }
     {
         match self {
             Ending::Done => put_all(sink, b""),
-            Ending::Unbuilt(part) => put_pieces(
-                sink,
-                &[b"omni: unbuilt: ".as_slice(), part.word(), b"\n"],
-            ),
+            Ending::Refused(refusal) => put_refusal(sink, refusal),
             Ending::NoMemory => put_all(sink, b"omni: memory\n"),
             Ending::Unread(name) => put_unread(sink, name.as_bytes()),
             Ending::Unwritten => put_all(sink, b"omni: write\n"),

@@ -2,17 +2,22 @@
 #![tactic(auto)]
 
 mod answer;
+mod asked;
+mod columns;
 mod ending;
-mod part;
-mod printing;
+mod escaping;
+mod laws;
+mod lines;
 mod program;
-mod query;
 mod reading;
+mod refusal;
 mod refused;
-mod run;
-mod short_log;
+#[cfg(test)]
+mod relation_tests;
+mod rows;
 #[cfg(test)]
 mod tests;
+mod view;
 mod words;
 
 use om_io::{DirShelf, StdSink};

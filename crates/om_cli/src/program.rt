@@ -1,16 +1,21 @@
 //! All that the program does, over a shelf and two sinks.
 
-ghost use Rattle.std.specs.Prelude.{◌≡◌, map, string_bytes};
+ghost use Rattle.std.specs.Prelude.{◌≡◌, Result, IfErr, map, string_bytes};
 ghost use Rattle.om_cli.specs.Ends.{end_of};
-ghost use Rattle.om_cli.specs.Outcome.{outcome_of};
-ghost use Rattle.om_cli.specs.Result.{ComesTo, End, Ends, line_of, status_of};
-ghost use Rattle.om_cli.specs.Reads.{GivesAnswer};
+ghost use Rattle.om_cli.specs.Lines.{End, line_of, status_of};
+ghost use Rattle.om_cli.specs.Outcome.{asked_by, outcome_of};
+ghost use Rattle.om_cli.specs.Reads.{AreReadings, GivesAnswer, IsUnread};
+ghost use Rattle.om_cli.specs.Result.{ComesTo, Ends, HasCause};
 ghost use Rattle.om_io.specs.Writing.{Tells};
+ghost use Rattle.om_log.specs.declared.fault.LogFault.{LogFault};
+ghost use Rattle.om_log.specs.declared.log.Log.{Log};
+ghost use Rattle.om_parse.specs.declared.fault.ParseFault.{ParseFault};
+ghost use Rattle.om_parse.specs.declared.tree.Query.{Query};
 
 use crate::answer::answer_text;
 use crate::ending::Ending;
-use crate::part::Part;
 use crate::reading::read_file;
+use crate::refusal::{Part, Refusal};
 use crate::refused::Refused;
 use crate::words::read_words;
 use om_base::Text;
@@ -23,12 +28,15 @@ fn text_of<'a, F: Shelf>(
     words: &'a Vec<String>,
     shelf: &mut F,
 ) -> Result<Text, Refused<'a>>
-    ensures text { GivesAnswer (map string_bytes words.now.items) (F.told shelf.old)
-        (F.failed_takes shelf.old) (F.failed_takes shelf.new) result }
+    ensures text { (log : Result Log LogFault) (query : Result Query ParseFault)
+        → AreReadings (asked_by (map string_bytes words.now.items)) (F.told shelf.old) log query
+        → GivesAnswer (outcome_of (map string_bytes words.now.items) (F.told shelf.old) log query) result }
+    ensures cause { IfErr result (IsUnread (ComesTo (map string_bytes words.now.items) (F.told shelf.old))
+        (F.failed_takes shelf.old) (F.failed_takes shelf.new)) }
     ensures told { F.told shelf.new ≡ F.told shelf.old }
 {
     let Some(request) = read_words(words) else {
-        return Err(Refused::Unbuilt(Part::Words));
+        return Err(Refused::Because(Refusal::Unbuilt(Part::Words)));
     };
     let exe = match read_file(alloc, shelf, request.exe, Part::Executable) {
         Ok(bytes) => bytes,
@@ -48,16 +56,18 @@ fn run<'a, F: Shelf, O: Sink>(
     shelf: &mut F,
     out: &mut O,
 ) -> Ending<'a>
-    ensures ends { Ends (outcome_of (map string_bytes words.now.items) (F.told shelf.old))
-        (ComesTo (map string_bytes words.now.items) (F.told shelf.old))
-        (F.failed_takes shelf.old) (F.failed_takes shelf.new) (O.faults out.old) (O.faults out.new)
+    ensures ends { (log : Result Log LogFault) (query : Result Query ParseFault)
+        → AreReadings (asked_by (map string_bytes words.now.items)) (F.told shelf.old) log query
+        → Ends (outcome_of (map string_bytes words.now.items) (F.told shelf.old) log query)
         (O.written out.old) (O.written out.new) (end_of result) }
+    ensures cause { HasCause (ComesTo (map string_bytes words.now.items) (F.told shelf.old))
+        (F.failed_takes shelf.old) (F.failed_takes shelf.new) (O.faults out.old) (O.faults out.new) (end_of result) }
     ensures told { F.told shelf.new ≡ F.told shelf.old }
 {
     let text = match text_of(alloc, words, shelf) {
         Ok(text) => text,
         Err(Refused::NoMemory) => return Ending::NoMemory,
-        Err(Refused::Unbuilt(part)) => return Ending::Unbuilt(part),
+        Err(Refused::Because(refusal)) => return Ending::Refused(refusal),
         Err(Refused::Unread(name)) => return Ending::Unread(name),
     };
     match put_all(out, text.bytes()) {
@@ -78,10 +88,12 @@ pub fn omni<F: Shelf, O: Sink, P: Sink>(
 ) -> u8
     // The status, what was printed and what was told are those of one end of the command.
     ensures ends { (end : End) × (result ≡ status_of end)
-        × Ends (outcome_of (map string_bytes words.now.items) (F.told shelf.old))
-        (ComesTo (map string_bytes words.now.items) (F.told shelf.old))
-        (F.failed_takes shelf.old) (F.failed_takes shelf.new) (O.faults out.old) (O.faults out.new)
-        (O.written out.old) (O.written out.new) end
+        × ((log : Result Log LogFault) (query : Result Query ParseFault)
+        → AreReadings (asked_by (map string_bytes words.now.items)) (F.told shelf.old) log query
+        → Ends (outcome_of (map string_bytes words.now.items) (F.told shelf.old) log query)
+        (O.written out.old) (O.written out.new) end)
+        × HasCause (ComesTo (map string_bytes words.now.items) (F.told shelf.old))
+        (F.failed_takes shelf.old) (F.failed_takes shelf.new) (O.faults out.old) (O.faults out.new) end
         × Tells (P.written err.old) (P.written err.new) (P.faults err.old) (P.faults err.new)
         (P.refused_growths err.old) (P.refused_growths err.new) (line_of end) }
     ensures told { F.told shelf.new ≡ F.told shelf.old }

@@ -5,7 +5,7 @@ ghost use Rattle.om_cli.specs.Outcome.{seen_in};
 ghost use Rattle.om_cli.specs.Reads.{Reads};
 ghost use Rattle.om_io.specs.Shelf.{NoneFalls};
 
-use crate::part::Part;
+use crate::refusal::{Part, Refusal};
 use crate::refused::Refused;
 use om_base::Bytes;
 use om_io::{Shelf, ShelfFail, Taken};
@@ -28,7 +28,7 @@ pub fn read_file<'a, F: Shelf>(
 {
     match shelf.take(alloc, name, MOST_BYTES) {
         Ok(Taken::Whole(bytes)) => Ok(bytes),
-        Ok(Taken::Longer) => Err(Refused::Unbuilt(part)),
+        Ok(Taken::Longer) => Err(Refused::Because(Refusal::Unbuilt(part))),
         Err(ShelfFail::NoMemory) => Err(Refused::NoMemory),
         Err(ShelfFail::Failed) => Err(Refused::Unread(name)),
     }

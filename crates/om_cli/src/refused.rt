@@ -1,6 +1,6 @@
 //! Why a command has no text to print.
 
-use crate::part::Part;
+use crate::refusal::Refusal;
 use om_base::NoMemory;
 
 /// Why a command has no text to print.
@@ -8,8 +8,8 @@ use om_base::NoMemory;
 pub enum Refused<'a> {
     /// No memory was left.
     NoMemory,
-    /// This part isn't built.
-    Unbuilt(Part),
+    /// There is no answer, for this reason.
+    Because(Refusal),
     /// The file of this name was not read.
     Unread(&'a str),
 }

@@ -20,9 +20,14 @@ const LOG: [u8; 79] = [
     0, 0, 0, 0, 0, 0, 3, 9, 0, 0, 0, 0, 0, 0, 0, 0, 0, 0, 0, 0,
 ];
 
-const SQL: &str = "SELECT step FROM states WHERE pc = 65544";
+const SQL: &str = "SELECT step, a0 FROM states WHERE pc = 65544";
 
-const ANSWER: &[u8] = b"step\n   2\n   4\n   6\nrows 3\n";
+const ANSWER: &[u8] = b"step  a0
+   2   2
+   4   1
+   6   0
+rows 3
+";
 
 /// What a command left.
 #[derive(Drop)]
@@ -97,7 +102,7 @@ fn the_answer_is_printed(rt: HostRuntime) -> Result<(), Fail> {
     // Faults of the outside: the second write, and the second take.
     let cut = run_command(rt.alloc(), &words, files(rt.alloc(), None, None)?, 0, 2)?;
     assert_eq!(rt; cut.status, 9);
-    assert_eq!(rt; cut.out.as_slice(), &ANSWER[..8]);
+    assert_eq!(rt; cut.out.as_slice(), b"step  a0".as_slice());
     assert_eq!(rt; cut.err.as_slice(), b"omni: write\n".as_slice());
     let unread = run_command(rt.alloc(), &words, files(rt.alloc(), None, None)?, 2, 0)?;
     assert_eq!(rt; unread.status, 8);
@@ -113,45 +118,128 @@ fn the_answer_is_printed(rt: HostRuntime) -> Result<(), Fail> {
     Ok(())
 }
 
+/// A change of a file at one byte.
+const fn byte_at(at: usize, byte: u8) -> Option<Change> {
+    Some(Change { at, byte })
+}
+
 #[test]
-fn each_part_that_is_not_built_is_told(rt: HostRuntime) -> Result<(), Fail> {
+fn each_refusal_is_told(rt: HostRuntime) -> Result<(), Fail> {
+    let all = "SELECT step FROM states";
     let rows = [
         (
-            ["record", "program", "run.log", SQL],
+            "record",
+            SQL,
             None,
             None,
+            11,
             b"omni: unbuilt: words\n".as_slice(),
         ),
         (
-            ["query", "program", "run.log", SQL],
-            Some(Change { at: 18, byte: 62 }),
+            "query",
+            SQL,
+            byte_at(18, 62),
             None,
-            b"omni: unbuilt: executable\n".as_slice(),
+            11,
+            b"omni: unbuilt: executable\n",
         ),
         (
-            ["query", "program", "run.log", SQL],
+            "query",
+            SQL,
             None,
-            Some(Change { at: 20, byte: 2 }),
-            b"omni: unbuilt: log\n".as_slice(),
+            byte_at(20, 2),
+            11,
+            b"omni: unbuilt: log\n",
         ),
         (
-            ["query", "program", "run.log", "SELECT step FROM states"],
+            "query",
+            SQL,
             None,
-            None,
-            b"omni: unbuilt: query\n".as_slice(),
+            byte_at(61, 1),
+            11,
+            b"omni: unbuilt: log\n",
         ),
         (
-            ["query", "program", "run.log", SQL],
-            Some(Change { at: 84, byte: 0x17 }),
+            "query",
+            "SELECT func FROM states",
             None,
-            b"omni: unbuilt: run\n".as_slice(),
+            None,
+            11,
+            b"omni: unbuilt: query\n",
+        ),
+        (
+            "query",
+            SQL,
+            byte_at(84, 0x17),
+            None,
+            11,
+            b"omni: unbuilt: run\n",
+        ),
+        ("query", all, None, byte_at(0, 0), 5, b"omni: log: magic\n"),
+        (
+            "query",
+            all,
+            None,
+            byte_at(3, 0x32),
+            5,
+            b"omni: log: version\n",
+        ),
+        ("query", all, None, byte_at(9, 1), 5, b"omni: log: region\n"),
+        (
+            "query",
+            all,
+            None,
+            byte_at(20, 9),
+            5,
+            b"omni: log: kind at 20\n",
+        ),
+        (
+            "query",
+            all,
+            None,
+            byte_at(66, 8),
+            5,
+            b"omni: log: order at 65\n",
+        ),
+        (
+            "query",
+            all,
+            None,
+            byte_at(68, 62),
+            7,
+            b"omni: limit: 4063241 steps, allowed 4000000\n",
+        ),
+        (
+            "query",
+            all,
+            None,
+            byte_at(29, 94),
+            6,
+            b"omni: departs: step 8: number: log 94, run 93\n",
+        ),
+        (
+            "query",
+            all,
+            None,
+            byte_at(75, 1),
+            6,
+            b"omni: departs: step 9: end value: log 1, run 0\n",
+        ),
+        (
+            "query",
+            all,
+            None,
+            byte_at(53, 5),
+            6,
+            b"omni: departs: step 8: argument 5: log 5, run 0\n",
         ),
     ];
-    for (words, program, log, line) in rows {
+    for (command, sql, program, log, status, line) in rows {
+        let words = [command, "program", "run.log", sql];
         let end = run_command(rt.alloc(), &words, files(rt.alloc(), program, log)?, 0, 0)?;
-        assert_eq!(rt; end.status, 11);
-        assert_eq!(rt; end.out.as_slice(), b"".as_slice());
         assert_eq!(rt; end.err.as_slice(), line);
+        assert_eq!(rt; end.status, status);
+        assert_eq!(rt; end.out.as_slice(), b"".as_slice());
     }
     Ok(())
 }

@@ -6,10 +6,11 @@ use Rattle.std.proofs.lemmas.List.Sums.{sum_by-cons, sum_by-append}
 use Rattle.std.proofs.lemmas.List.Elements.{All-nil, All-cons, All-head, All-tail}
 use Rattle.om_elf.specs.Image.{Image, FitsMemory, AreLoadable}
 use Rattle.om_step.specs.Contents.{Filled, numbered, contents_of}
-use Rattle.om_step.specs.First.{IsLawfulStart, stack_of, heap_of, segment_of, filled_of, regions_of}
+use Rattle.om_log.specs.Regions.{IsLawfulStart}
+use Rattle.om_step.specs.First.{stack_of, heap_of, segment_of, filled_of, regions_of}
 use Rattle.om_step.specs.Laid.{cells, laid, IsLaid}
 use Rattle.om_step.specs.declared.region.Region.{Region}
-use Rattle.om_step.specs.declared.start.Start.{Start}
+use Rattle.om_log.specs.declared.start.Start.{Start}
 
 -- each region has as many bytes as its size, and ends in the address space
 abbrev pub AreSound : List Filled → Type 0
@@ -95,7 +96,7 @@ size-all : (images : List Image) (start : Start) → AreLoadable images → IsLa
 unfolding filled_of
 size-all images start loadable lawful =
     let front = size-segments images in
-    let least = lawful.small in
+    let least = lawful.most in
     let most = loadable.small in
     rw (map-append (λ (f : Filled). f.region) (segments_of images) (stack_of start ∷ heap_of start ∷ []), sum_by-append (λ (r : Region). r.size) (map (λ (f : Filled). f.region) (segments_of images)) (map (λ (f : Filled). f.region) (stack_of start ∷ heap_of start ∷ []))) (omega arith)
 

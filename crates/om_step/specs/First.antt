@@ -1,9 +1,9 @@
--- The first state of a run, and what a run's regions must be.
+-- The first state of a run.
 use Rattle.std.specs.Prelude.{◌≡◌, ℕ, ◌+◌, ◌-◌, ◌%◌, ◌^◌, ◌≤◌, ◌<◌, false, nat_lt, List, [], ◌∷◌, ◌++◌, length, map, filter, replicate, slice_set}
-use Rattle.om_step.specs.Contents.{shares, Filled, contents_of}
+use Rattle.om_step.specs.Contents.{Filled, contents_of}
 use Rattle.om_step.specs.State.{State}
 use Rattle.om_step.specs.declared.region.Region.{Region}
-use Rattle.om_step.specs.declared.start.Start.{Start}
+use Rattle.om_log.specs.declared.start.Start.{Start}
 use Rattle.om_elf.specs.Image.{Image}
 use Rattle.om_elf.specs.declared.elf.Elf.{Elf}
 
@@ -16,18 +16,6 @@ stack_of start = zeros start.stack_low start.stack_size
 
 abbrev pub heap_of : Start → Filled
 heap_of start = zeros start.heap_low start.heap_size
-
--- stack and heap are whole pages, apart, within the address space and 32 MiB, and there is a stack
-pub record IsLawfulStart (start : Start) : Type 0 where
-  pub stack_page : start.stack_low % 4096 ≡ 0
-  pub stack_pages : start.stack_size % 4096 ≡ 0
-  pub heap_page : start.heap_low % 4096 ≡ 0
-  pub heap_pages : start.heap_size % 4096 ≡ 0
-  pub stack : 0 < start.stack_size
-  pub stack_end : start.stack_low + start.stack_size ≤ 2 ^ 32
-  pub heap_end : start.heap_low + start.heap_size ≤ 2 ^ 32
-  pub apart : shares (stack_of start).region (heap_of start).region ≡ false
-  pub small : start.stack_size + start.heap_size ≤ 33554432
 
 -- a segment in memory: the file's bytes, then zeros
 abbrev pub segment_of : Image → Filled

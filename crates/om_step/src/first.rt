@@ -3,12 +3,13 @@
 ghost use Rattle.std.specs.Prelude.{◌≡◌, ◌+◌, ◌^◌, ◌<◌, ◌≤◌, ◌++◌, length, flat_map, position, replicate, vec_len, IfSome, IfOk, OnOk};
 ghost use Rattle.om_elf.specs.Image.{AreLoadable, FitsMemory};
 ghost use Rattle.om_step.specs.Contents.{overlap_of, shares};
-ghost use Rattle.om_step.specs.First.{IsLawfulStart, filled_of, regions_of, segment_of};
+ghost use Rattle.om_log.specs.Regions.{IsLawfulStart};
+ghost use Rattle.om_step.specs.First.{filled_of, heap_of, regions_of, segment_of, stack_of};
 
 use crate::region::Region;
-use crate::start::Start;
 use om_base::NoMemory;
 use om_elf::Segment;
+use om_log::Start;
 use std::alloc::Global;
 
 /// The region of a segment.
@@ -19,6 +20,31 @@ fn region_of(segment: &Segment<'_>) -> Region
         low: segment.vaddr,
         size: segment.memsz,
         rights: segment.rights,
+    }
+}
+
+/// The rights of stack and heap: to write and to read.
+const STACK_AND_HEAP: u8 = 6;
+
+/// The stack's region.
+fn stack_region(start: &Start) -> Region
+    ensures { result ≡ (stack_of start.now).region }
+{
+    Region {
+        low: start.stack_low,
+        size: start.stack_size,
+        rights: STACK_AND_HEAP,
+    }
+}
+
+/// The heap's region.
+fn heap_region(start: &Start) -> Region
+    ensures { result ≡ (heap_of start.now).region }
+{
+    Region {
+        low: start.heap_low,
+        size: start.heap_size,
+        rights: STACK_AND_HEAP,
     }
 }
 
@@ -37,8 +63,8 @@ pub fn all_regions(
             regions.push(region_of(segment))?;
         }
     }
-    regions.push(start.stack())?;
-    regions.push(start.heap())?;
+    regions.push(stack_region(start))?;
+    regions.push(heap_region(start))?;
     Ok(regions)
 }
 

@@ -11,12 +11,11 @@ mod machine;
 mod memory;
 mod meter;
 mod region;
-mod start;
 #[cfg(test)]
 mod tests;
 
 pub use machine::{Machine, Outcome, Touched};
 pub use memory::{MapFault, Memory};
 pub use meter::StepMeter;
+pub use om_log::Start;
 pub use region::Region;
-pub use start::Start;

@@ -3,7 +3,8 @@
 ghost use Rattle.std.specs.Prelude.{◌≡◌, ℕ, ◌+◌, ◌-◌, ◌%◌, ◌^◌, ◌<◌, ◌≢◌, slice_index, IfSome};
 ghost use Rattle.om_elf.specs.Image.{AreLoadable};
 ghost use Rattle.om_step.specs.Contents.{overlap_of};
-ghost use Rattle.om_step.specs.First.{IsLawfulStart, first_state, regions_of};
+ghost use Rattle.om_log.specs.Regions.{IsLawfulStart};
+ghost use Rattle.om_step.specs.First.{first_state, regions_of};
 ghost use Rattle.om_step.specs.Gives.{Gives};
 ghost use Rattle.om_step.specs.Step.{NamesRegister, Spares, answered, change_at, next, outcome, steps_of, touched_by};
 ghost use Rattle.om_step.specs.State.{register, written};
@@ -12,8 +13,8 @@ use crate::change::{Change, change_of};
 use crate::decode::decode;
 use crate::memory::{MapFault, Memory};
 use crate::meter::StepMeter;
-use crate::start::Start;
 use om_elf::Elf;
+use om_log::Start;
 use std::alloc::Global;
 use std::marker::Model;
 
@@ -74,6 +75,16 @@ impl Model for Machine {
     ghost invariant = { λ it. slice_index it.registers 0 ≡ 0 };
 }
 
+/// What a write to a register touches.
+fn write_touches(number: u8) -> Touched
+    ensures { result ≡ touched_by number }
+{
+    match number {
+        0 => Touched::Nothing,
+        _ => Touched::Reg(number),
+    }
+}
+
 /// Writes a register, unless it is x0, and says which.
 fn write_register(registers: &mut [u32; 32], number: u8, value: u32) -> Touched
     requires { number < 32 }
@@ -128,6 +139,17 @@ impl Machine {
         ensures { result.now ≡ self.now.memory }
     {
         &self.memory
+    }
+
+    /// What happens at the state; a step isn't made.
+    pub fn look(&self) -> Outcome
+        ensures { result ≡ outcome self.now }
+    {
+        match self.change() {
+            Some(Change::Go { rd, .. }) => Outcome::Next(write_touches(rd)),
+            Some(Change::Ask) => Outcome::Call,
+            Some(Change::Halt) | None => Outcome::Unbuilt,
+        }
     }
 
     /// The change that comes next; none where no instruction that is built stands at the pc.

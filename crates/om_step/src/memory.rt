@@ -3,16 +3,17 @@
 ghost use Rattle.std.specs.Prelude.{◌≡◌, ◌+◌, ◌-◌, ◌%◌, ◌^◌, ◌<◌, ◌≤◌, List, ℕ, length, slice_get, map, sum_by, All, IfSome, IfOk, OnOk};
 ghost use Rattle.std.specs.FinMap as fin;
 ghost use Rattle.om_step.specs.Contents.{fetched_byte, fetched_word, overlap_of, overlap_from, contents_of};
-ghost use Rattle.om_step.specs.First.{IsLawfulStart, filled_of, regions_of};
+ghost use Rattle.om_log.specs.Regions.{IsLawfulStart};
+ghost use Rattle.om_step.specs.First.{filled_of, regions_of};
 ghost use Rattle.om_step.specs.Gives.{Gives};
 ghost use Rattle.om_step.specs.Laid.{IsLaid, laid, place_of};
 ghost use Rattle.om_elf.specs.Image.{AreLoadable};
 
 use crate::first::{all_bytes, all_regions, overlap};
 use crate::region::Region;
-use crate::start::Start;
 use om_base::NoMemory;
 use om_elf::Segment;
+use om_log::Start;
 use std::alloc::Global;
 use std::marker::Model;
 

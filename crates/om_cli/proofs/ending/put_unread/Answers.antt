@@ -1,6 +1,6 @@
 use Rattle.std.proofs.Common.{[], ◌∷◌, ◌++◌}
 use Rattle.om_io.proofs.PutsLemmas.{puts_then, puts_stops}
-use Rattle.om_cli.specs.Result.{escaped}
+use Rattle.om_table.specs.Escape.{escaped}
 use Rattle.om_cli.proofs.ending.put_unread.Goals as goal
 
 pub returns-in-Err : goal.returns-in-Err

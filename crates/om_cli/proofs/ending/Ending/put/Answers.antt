@@ -1,4 +1,4 @@
-use Rattle.om_cli.specs.Result.{line_of}
+use Rattle.om_cli.specs.Lines.{line_of}
 use Rattle.om_cli.proofs.ending.Ending.put.Goals as goal
 
 pub returns-in-NoMemory : goal.returns-in-NoMemory

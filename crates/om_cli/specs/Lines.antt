@@ -1,0 +1,93 @@
+-- The lines that are told of refusals, and the exit statuses.
+use Rattle.std.specs.Prelude.{ℕ, List, [], ◌∷◌, ◌++◌, codes, decimal}
+use Rattle.om_log.specs.declared.fault.LogFault.{LogFault}
+use Rattle.om_log.specs.declared.fault.LogFault.TheVariants as log
+use Rattle.om_run.specs.declared.departure.Departure.{Departure}
+use Rattle.om_run.specs.declared.departure.Reason.{Reason}
+use Rattle.om_run.specs.declared.departure.Reason.TheVariants as reason
+use Rattle.om_table.specs.Escape.{escaped}
+use Rattle.om_cli.specs.declared.refusal.Part.{Part}
+use Rattle.om_cli.specs.declared.refusal.Part.TheVariants as part
+use Rattle.om_cli.specs.declared.refusal.Refusal.{Refusal}
+use Rattle.om_cli.specs.declared.refusal.Refusal.TheVariants.{Unbuilt, Log, TooLong, Departs}
+
+-- how the program ends
+pub data End : Type 0 where
+  -- all was printed
+  done : End
+  -- there is no answer
+  refused : Refusal → End
+  -- no memory was left
+  no_memory : End
+  -- the file of this name was not read
+  unread : List ℕ → End
+  -- the text was not written
+  unwritten : End
+
+-- the exit status of a refusal
+abbrev pub refusal_status : Refusal → ℕ
+refusal_status (Unbuilt part) = 11
+refusal_status (Log fault) = 5
+refusal_status (TooLong steps) = 7
+refusal_status (Departs departure) = 6
+
+-- the exit status of an end
+abbrev pub status_of : End → ℕ
+status_of done = 0
+status_of (refused refusal) = refusal_status refusal
+status_of no_memory = 10
+status_of (unread name) = 8
+status_of unwritten = 9
+
+-- the word for a part
+abbrev pub word_of : Part → List ℕ
+word_of part.Words = codes "words"
+word_of part.Executable = codes "executable"
+word_of part.Log = codes "log"
+word_of part.Query = codes "query"
+word_of part.Run = codes "run"
+
+-- the words for a fault of a log
+abbrev pub fault_words : LogFault → List ℕ
+fault_words (log.Short at) = codes "short at " ++ decimal at
+fault_words log.Magic = codes "magic"
+fault_words log.Version = codes "version"
+fault_words (log.Kind at) = codes "kind at " ++ decimal at
+fault_words (log.Order at) = codes "order at " ++ decimal at
+fault_words log.NoEnd = codes "no end"
+fault_words (log.Trailing at) = codes "trailing at " ++ decimal at
+fault_words log.Region = codes "region"
+fault_words log.NoMemory = []
+fault_words (log.Unbuilt at) = []
+
+-- the words for the rule that is broken
+abbrev pub reason_words : Reason → List ℕ
+reason_words reason.EndExit = codes "end exit"
+reason_words reason.EndValue = codes "end value"
+reason_words reason.Call = codes "call"
+reason_words reason.Passed = codes "passed"
+reason_words reason.Number = codes "number"
+reason_words (reason.Argument j) = codes "argument " ++ decimal j
+
+-- the words for the step of a departure
+abbrev pub step_words : ℕ → List ℕ
+step_words step = codes "omni: departs: step " ++ decimal step ++ codes ": "
+
+-- the words for the two numbers of a departure
+abbrev pub number_words : (told found : ℕ) → List ℕ
+number_words told found = codes ": log " ++ decimal told ++ codes ", run " ++ decimal found
+
+-- the line of a refusal, without its line end
+unfoldable pub refusal_line : Refusal → List ℕ
+refusal_line (Unbuilt part) = codes "omni: unbuilt: " ++ word_of part
+refusal_line (Log fault) = codes "omni: log: " ++ fault_words fault
+refusal_line (TooLong steps) = codes "omni: limit: " ++ decimal steps ++ codes " steps, allowed 4000000"
+refusal_line (Departs d) = step_words d.step ++ reason_words d.reason ++ number_words d.told d.found
+
+-- the line that is told of an end, with its line end
+unfoldable pub line_of : End → List ℕ
+line_of done = []
+line_of (refused refusal) = refusal_line refusal ++ 10 ∷ []
+line_of no_memory = codes "omni: memory" ++ 10 ∷ []
+line_of (unread name) = codes "omni: read: " ++ escaped name ++ 10 ∷ []
+line_of unwritten = codes "omni: write" ++ 10 ∷ []

@@ -1,0 +1,24 @@
+//! What the theorem of the program rests on beside its clause: the files and the text that it speaks of
+//! are read in one way. No code is in it.
+
+ghost use Rattle.std.specs.Prelude.{◌≡◌, ◌<◌, ℕ, List, Result, slice_index};
+ghost use Rattle.om_cli.specs.Readings.{IsLogReading, IsQueryReading};
+ghost use Rattle.om_log.specs.declared.fault.LogFault.{LogFault};
+ghost use Rattle.om_log.specs.declared.log.Log.{Log};
+ghost use Rattle.om_parse.specs.declared.fault.ParseFault.{ParseFault};
+ghost use Rattle.om_parse.specs.declared.tree.Query.{Query};
+
+/// Every file of bytes and every text is read in one way: as a log or a fault, and as a tree or a refusal.
+pub fn one_meaning()
+    ensures log { (file : List ℕ) → ((i : ℕ) → slice_index file i < 256) → (read : Result Log LogFault) × IsLogReading file read }
+    ensures query { (text : List ℕ) → (read : Result Query ParseFault) × IsQueryReading text read }
+    ensures one_log { (file : List ℕ) (a b : Result Log LogFault) → IsLogReading file a → IsLogReading file b → a ≡ b }
+    ensures one_query { (text : List ℕ) (a b : Result Query ParseFault) → IsQueryReading text a → IsQueryReading text b → a ≡ b }
+{
+    om_log::log_or_fault();
+    om_log::one_reading();
+    om_parse::tree_or_refusal();
+    om_parse::one_tree();
+    om_parse::one_refusal();
+    om_parse::never_both();
+}

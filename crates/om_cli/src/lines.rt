@@ -1,0 +1,164 @@
+//! The lines that are told of refusals.
+
+ghost use Rattle.std.specs.Prelude.{◌≡◌, [], ◌∷◌, ◌++◌, codes, decimal};
+ghost use Rattle.om_cli.specs.Lines.{fault_words, number_words, reason_words, refusal_line, step_words, word_of};
+ghost use Rattle.om_io.specs.Writing.{Puts};
+
+use crate::refusal::{Part, Refusal};
+use itoa::Buffer;
+use om_io::{Sink, SinkFail, put_all, put_pieces};
+use om_log::LogFault;
+use om_run::{Departure, Reason};
+
+impl Part {
+    /// The word for the part.
+    fn word(&self) -> &'static [u8]
+        ensures { result.now ≡ word_of self.now }
+    {
+        match self {
+            Part::Words => b"words",
+            Part::Executable => b"executable",
+            Part::Log => b"log",
+            Part::Query => b"query",
+            Part::Run => b"run",
+        }
+    }
+}
+
+/// Writes some words and a number.
+fn put_place<P: Sink>(sink: &mut P, words: &[u8], at: u64) -> Result<(), SinkFail>
+    ensures { Puts (P.written sink.old) (P.written sink.new) (P.faults sink.old) (P.faults sink.new)
+        (P.refused_growths sink.old) (P.refused_growths sink.new) (words.now ++ decimal at) result }
+{
+    let mut buffer = Buffer::new();
+    put_pieces(sink, &[words, buffer.format(at).as_bytes()])
+}
+
+/// Writes the words for a fault of a log.
+fn put_fault<P: Sink>(sink: &mut P, fault: LogFault) -> Result<(), SinkFail>
+    ensures { Puts (P.written sink.old) (P.written sink.new) (P.faults sink.old) (P.faults sink.new)
+        (P.refused_growths sink.old) (P.refused_growths sink.new) (fault_words fault) result }
+{
+    match fault {
+        LogFault::Short { at } => put_place(sink, b"short at ", at),
+        LogFault::Kind { at } => put_place(sink, b"kind at ", at),
+        LogFault::Order { at } => put_place(sink, b"order at ", at),
+        LogFault::Trailing { at } => put_place(sink, b"trailing at ", at),
+        LogFault::Magic => put_all(sink, b"magic"),
+        LogFault::Version => put_all(sink, b"version"),
+        LogFault::NoEnd => put_all(sink, b"no end"),
+        LogFault::Region => put_all(sink, b"region"),
+        LogFault::NoMemory | LogFault::Unbuilt { .. } => put_all(sink, b""),
+    }
+}
+
+/// Writes the words for the rule that is broken.
+fn put_reason<P: Sink>(sink: &mut P, reason: Reason) -> Result<(), SinkFail>
+    ensures { Puts (P.written sink.old) (P.written sink.new) (P.faults sink.old) (P.faults sink.new)
+        (P.refused_growths sink.old) (P.refused_growths sink.new) (reason_words reason) result }
+{
+    match reason {
+        Reason::EndExit => put_all(sink, b"end exit"),
+        Reason::EndValue => put_all(sink, b"end value"),
+        Reason::Call => put_all(sink, b"call"),
+        Reason::Passed => put_all(sink, b"passed"),
+        Reason::Number => put_all(sink, b"number"),
+        Reason::Argument(place) => put_place(sink, b"argument ", u64::from(place)),
+    }
+}
+
+/// Writes the line of a departure, without its line end.
+fn put_departure<P: Sink>(sink: &mut P, departure: &Departure) -> Result<(), SinkFail>
+    ensures { Puts (P.written sink.old) (P.written sink.new) (P.faults sink.old) (P.faults sink.new)
+        (P.refused_growths sink.old) (P.refused_growths sink.new)
+        (step_words departure.now.step ++ reason_words departure.now.reason
+        ++ number_words departure.now.told departure.now.found) result }
+{
+    match put_step(sink, departure.step) {
+        Ok(()) => {}
+        Err(fail) => return Err(fail),
+    }
+    match put_reason(sink, departure.reason) {
+        Ok(()) => {}
+        Err(fail) => return Err(fail),
+    }
+    put_numbers(sink, departure.told, departure.found)
+}
+
+/// Writes the step of a departure.
+fn put_step<P: Sink>(sink: &mut P, step: u64) -> Result<(), SinkFail>
+    ensures { Puts (P.written sink.old) (P.written sink.new) (P.faults sink.old) (P.faults sink.new)
+        (P.refused_growths sink.old) (P.refused_growths sink.new)
+        (step_words step) result }
+{
+    match put_place(sink, b"omni: departs: step ", step) {
+        Ok(()) => put_all(sink, b": "),
+        Err(fail) => Err(fail),
+    }
+}
+
+/// Writes the two numbers of a departure.
+fn put_numbers<P: Sink>(sink: &mut P, told: u64, found: u64) -> Result<(), SinkFail>
+    ensures { Puts (P.written sink.old) (P.written sink.new) (P.faults sink.old) (P.faults sink.new)
+        (P.refused_growths sink.old) (P.refused_growths sink.new)
+        (number_words told found) result }
+{
+    let (mut log, mut run) = (Buffer::new(), Buffer::new());
+    put_pieces(
+        sink,
+        &[
+            b": log ".as_slice(),
+            log.format(told).as_bytes(),
+            b", run ",
+            run.format(found).as_bytes(),
+        ],
+    )
+}
+
+/// Writes the line of a refusal, without its line end.
+#[tactic(auto, unfolding(crate::specs::Lines::refusal_line))]
+fn put_words<P: Sink>(sink: &mut P, refusal: &Refusal) -> Result<(), SinkFail>
+    ensures { Puts (P.written sink.old) (P.written sink.new) (P.faults sink.old) (P.faults sink.new)
+        (P.refused_growths sink.old) (P.refused_growths sink.new) (refusal_line refusal.now) result }
+{
+    match refusal {
+        Refusal::Unbuilt(part) => put_pieces(sink, &[b"omni: unbuilt: ".as_slice(), part.word()]),
+        Refusal::Log(fault) => put_log(sink, *fault),
+        Refusal::TooLong { steps } => put_limit(sink, *steps),
+        Refusal::Departs(departure) => put_departure(sink, departure),
+    }
+}
+
+/// Writes the line of a log's fault, without its line end.
+fn put_log<P: Sink>(sink: &mut P, fault: LogFault) -> Result<(), SinkFail>
+    ensures { Puts (P.written sink.old) (P.written sink.new) (P.faults sink.old) (P.faults sink.new)
+        (P.refused_growths sink.old) (P.refused_growths sink.new) (codes "omni: log: " ++ fault_words fault) result }
+{
+    match put_all(sink, b"omni: log: ") {
+        Ok(()) => put_fault(sink, fault),
+        Err(fail) => Err(fail),
+    }
+}
+
+/// Writes the line of a run that is too long, without its line end.
+fn put_limit<P: Sink>(sink: &mut P, steps: u64) -> Result<(), SinkFail>
+    ensures { Puts (P.written sink.old) (P.written sink.new) (P.faults sink.old) (P.faults sink.new)
+        (P.refused_growths sink.old) (P.refused_growths sink.new)
+        (codes "omni: limit: " ++ decimal steps ++ codes " steps, allowed 4000000") result }
+{
+    match put_place(sink, b"omni: limit: ", steps) {
+        Ok(()) => put_all(sink, b" steps, allowed 4000000"),
+        Err(fail) => Err(fail),
+    }
+}
+
+/// Writes the line of a refusal.
+pub fn put_refusal<P: Sink>(sink: &mut P, refusal: &Refusal) -> Result<(), SinkFail>
+    ensures { Puts (P.written sink.old) (P.written sink.new) (P.faults sink.old) (P.faults sink.new)
+        (P.refused_growths sink.old) (P.refused_growths sink.new) (refusal_line refusal.now ++ 10 ∷ []) result }
+{
+    match put_words(sink, refusal) {
+        Ok(()) => put_all(sink, b"\n"),
+        Err(fail) => Err(fail),
+    }
+}

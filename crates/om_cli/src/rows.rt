@@ -1,0 +1,128 @@
+//! The rows of an answer: a replay that looks at each state.
+
+ghost use Rattle.std.specs.Prelude.{◌≡◌, ◌≤◌, ◌++◌, map, IfOk, OnOk};
+ghost use Rattle.om_cli.specs.Answer.{noted, row_at};
+ghost use Rattle.om_cli.specs.View.{row_of};
+ghost use Rattle.om_cli.specs.Rows.{GivesRows, stopped};
+ghost use Rattle.om_eval.specs.Meaning.{cell_at, owned};
+ghost use Rattle.om_run.specs.Run.{end_of};
+
+use crate::asked::Question;
+use crate::view::View;
+use om_base::{Items, NoMemory, Text};
+use om_eval::{ColumnId, Owned, RowView, Truth, Value, truth_of};
+use om_run::{Departure, Halt, Replay};
+use om_step::StepMeter;
+use std::alloc::Global;
+
+/// Why there are no rows.
+#[derive(Clone, Copy, Debug, PartialEq, Eq)]
+pub enum Stopped {
+    /// No memory was left.
+    NoMemory,
+    /// The run departs from its log.
+    Departs(Departure),
+    /// The run stops before its end, or needs what isn't built.
+    Unbuilt,
+}
+
+impl From<NoMemory> for Stopped {
+    ghost use Rattle.std.specs.Prelude.{◌≡◌};
+    ghost use Rattle.om_cli.specs.declared.rows.Stopped.TheVariants as stopped;
+
+    ghost from_gives = { λ _ e. e ≡ stopped.NoMemory };
+
+    fn from(_error: NoMemory) -> Stopped {
+        Stopped::NoMemory
+    }
+}
+
+/// The cell of a row at a column, NULL past the 32 registers.
+fn cell<'a>(view: &'a View<'_>, column: ColumnId) -> Value<'a>
+    ensures { owned result ≡ cell_at (row_of view.now.machine.now view.now.step) column }
+{
+    match column {
+        ColumnId::Reg(number) if number >= 32 => Value::Null,
+        _ => view.cell(column),
+    }
+}
+
+/// A copy of a value, with a text of its own.
+fn kept(alloc: Global, value: &Value<'_>) -> Result<Owned, NoMemory>
+    ensures { IfOk result (λ copy. copy ≡ owned value.now) }
+{
+    match value {
+        Value::Int(number) => Ok(Owned::Int(*number)),
+        Value::Text(name) => Ok(Owned::Text(Text::copy_of(alloc, name.bytes())?)),
+        Value::Null => Ok(Owned::Null),
+    }
+}
+
+/// The cells of a row, one for each column.
+fn cells(alloc: Global, view: &View<'_>, columns: &[ColumnId]) -> Result<Items<Owned>, NoMemory>
+    ensures { IfOk result (λ cells. cells ≡ map (cell_at (row_of view.now.machine.now view.now.step)) columns.now) }
+{
+    let mut cells = Items::new(alloc);
+    for column in columns {
+        cells.push(kept(alloc, &cell(view, *column))?)?;
+    }
+    Ok(cells)
+}
+
+/// Appends the cells of the row at which the replay stands, if the condition is true there.
+fn note(
+    alloc: Global,
+    rows: &mut Items<Items<Owned>>,
+    replay: &Replay<'_>,
+    question: &Question,
+) -> Result<(), NoMemory>
+    ensures ok { OnOk result (rows.new ≡ rows.old ++ noted question.now (row_at replay.now.entries replay.now.first replay.now.step)) }
+{
+    let view = View {
+        machine: replay.machine(),
+        step: replay.position(),
+    };
+    if truth_of(&question.filter, &view) == Truth::Yes {
+        rows.push(cells(alloc, &view, question.columns.as_slice())?)?;
+    }
+    Ok(())
+}
+
+/// Why a halt stops the run before its end; none where it is the end.
+fn stopped_by(halt: Halt) -> Option<Stopped>
+    ensures { result ≡ stopped halt }
+{
+    match halt {
+        Halt::Ended => None,
+        Halt::Departs(departure) => Some(Stopped::Departs(departure)),
+        Halt::Unbuilt => Some(Stopped::Unbuilt),
+    }
+}
+
+/// The rows of a run at which the question's condition is true, from a replay that stands at its first state.
+///
+/// Errors: `Departs` and `Unbuilt` where the run stops before its end; `NoMemory`.
+pub fn rows_of(
+    alloc: Global,
+    replay: &mut Replay<'_>,
+    question: &Question,
+) -> Result<Items<Items<Owned>>, Stopped>
+    requires first { replay.old.step ≡ 0 }
+    requires few { (end_of replay.old.entries).step ≤ 4000000 }
+    ensures { GivesRows replay.old.entries replay.old.first question.now result }
+{
+    let mut meter = StepMeter::new();
+    let mut rows = Items::new(alloc);
+    loop {
+        note(alloc, &mut rows, replay, question)?;
+        match replay.advance(&mut meter) {
+            Ok(_) => {}
+            Err(halt) => {
+                return match stopped_by(halt) {
+                    None => Ok(rows),
+                    Some(stopped) => Err(stopped),
+                };
+            }
+        }
+    }
+}

@@ -1,0 +1,5 @@
+use Rattle.std.proofs.Common.{◌-◌}
+use Rattle.om_run.proofs.tests.halted.Given as goal
+
+abbrev pub decreases-loop-replay : goal.decreases-loop-replay
+decreases-loop-replay l = 20 - l.meter

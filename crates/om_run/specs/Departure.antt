@@ -1,0 +1,121 @@
+-- Where a run departs from its log: the rules, in the order in which they are judged at a step.
+use Rattle.std.specs.Prelude.{ℕ, zero, suc, ◌+◌, Bool, not, ◌&&◌, ◌||◌, nat_eq, nat_lt, if◌then◌else◌, List, [], ◌∷◌, slice_index, map, Option, Some, None}
+use Rattle.std.specs.Option.{option_map, option_map_or, option_or}
+use Rattle.om_log.specs.declared.entry.Entry.{Entry}
+use Rattle.om_step.specs.State.{State, register}
+use Rattle.om_step.specs.Step.{outcome}
+use Rattle.om_step.specs.declared.machine.Outcome.{Outcome}
+use Rattle.om_step.specs.declared.machine.Outcome.TheVariants.{Next, Call as StandsAtCall, Unbuilt}
+use Rattle.om_run.specs.declared.told.Told.{Told}
+use Rattle.om_run.specs.declared.told.Ending.{Ending}
+use Rattle.om_run.specs.Run.{due, end_of, state_at, below}
+use Rattle.om_run.specs.declared.departure.Reason.{Reason}
+use Rattle.om_run.specs.declared.departure.Reason.TheVariants.{EndExit, EndValue, Call, Passed, Number, Argument}
+use Rattle.om_run.specs.declared.departure.Departure.{Departure}
+use Rattle.om_run.specs.declared.departure.Halt.{Halt}
+use Rattle.om_run.specs.declared.departure.Halt.TheVariants.{Departs, Unbuilt as NotBuilt}
+
+-- a rule that is broken: the number that the log has, and the one that the run has
+pub record Broken : Type 0 where
+  pub told : ℕ
+  pub found : ℕ
+
+abbrev pub broken : (told found : ℕ) → Option Broken
+broken told found = Some (record { told = told; found = found })
+
+-- ---- the end
+
+-- the call of the step before the last one
+abbrev pub call_before : List Entry → ℕ → Option Told
+call_before entries zero = None
+call_before entries (suc i) = due entries i
+
+-- the number of a call, or 0 where there is none
+abbrev pub number_of : Option Told → ℕ
+number_of call = option_map_or (λ (c : Told). c.number) call 0
+
+-- the number is that of a call that exits
+abbrev pub is_exit : ℕ → Bool
+is_exit number = nat_eq number 93 || nat_eq number 94
+
+-- an end by exit stands after a call that exits
+abbrev pub end_exit : Ending → Option Told → Option Broken
+end_exit end call =
+    if nat_eq end.cause 0 && not (is_exit (number_of call)) then broken end.value (number_of call) else None
+
+-- the first argument of a call, or 0 where there is none
+abbrev pub argument_of : Option Told → ℕ
+argument_of call = option_map_or (λ (c : Told). slice_index c.arguments 0) call 0
+
+-- the value of an end by exit is the call's first argument
+abbrev pub end_value : Ending → Option Told → Option Broken
+end_value end call =
+    if nat_eq end.cause 0 && not (nat_eq (argument_of call) end.value) then broken end.value (argument_of call) else None
+
+-- ---- a step before the last one
+
+-- the machine stands at a call, and the log tells none
+abbrev pub no_call : Option Told → State → Option Broken
+no_call None s = broken 0 (register s 17)
+no_call (Some call) s = None
+
+-- the log tells a call, and the machine stands at none
+abbrev pub passed : Option Told → State → Option Broken
+passed None s = None
+passed (Some call) s = broken call.number s.pc
+
+-- the call that the log tells has another number
+abbrev pub other_number : Told → State → Option Broken
+other_number call s = if nat_eq call.number (register s 17) then None else broken call.number (register s 17)
+
+-- an argument of the call is another one; the arguments stand in a0 to a5
+abbrev pub other_argument : ℕ → Told → State → Option Broken
+other_argument j call s =
+    if nat_eq (slice_index call.arguments j) (register s (10 + j)) then None else broken (slice_index call.arguments j) (register s (10 + j))
+
+-- ---- the first broken rule of a step
+
+-- a departure at a step, for a reason, where the rule is broken
+abbrev pub departs_for : ℕ → Reason → Option Broken → Option Departure
+departs_for i reason rule = option_map (λ (b : Broken). record { step = i; reason = reason; told = b.told; found = b.found }) rule
+
+-- the first of some departures
+abbrev pub first_of : List (Option Departure) → Option Departure
+first_of [] = None
+first_of (d ∷ ds) = option_or d (first_of ds)
+
+-- the rules of the last step
+abbrev pub departs_at_end : Ending → Option Told → ℕ → Option Departure
+departs_at_end end call i = first_of (departs_for i EndExit (end_exit end call) ∷ departs_for i EndValue (end_value end call) ∷ [])
+
+-- a departure for an argument, where it is another one
+abbrev pub departs_for_argument : Told → ℕ → State → ℕ → Option Departure
+departs_for_argument call i s j = departs_for i (Argument j) (other_argument j call s)
+
+-- the rules of a call that the log tells, where the machine stands at one: its number, then its arguments from the first
+abbrev pub departs_at_call : Option Told → ℕ → State → Option Departure
+departs_at_call None i s = departs_for i Call (no_call None s)
+departs_at_call (Some call) i s =
+    option_or (departs_for i Number (other_number call s)) (first_of (map (departs_for_argument call i s) (0 ∷ 1 ∷ 2 ∷ 3 ∷ 4 ∷ 5 ∷ [])))
+
+-- why the run stops at a step before the last one, by what happens there
+abbrev pub halts_by : Outcome → Option Told → ℕ → State → Option Halt
+halts_by Unbuilt call i s = Some NotBuilt
+halts_by StandsAtCall call i s = option_map Departs (departs_at_call call i s)
+halts_by (Next touched) call i s = option_map Departs (departs_for i Passed (passed call s))
+
+-- why the run stops at a step whose state is this one, if it does before its end
+abbrev pub halts_at : List Entry → ℕ → State → Option Halt
+halts_at entries i s =
+    if nat_lt i (end_of entries).step
+    then halts_by (outcome s) (due entries i) i s
+    else option_map Departs (departs_at_end (end_of entries) (call_before entries (end_of entries).step) i)
+
+-- the first of some steps at which the run stops, and why
+abbrev pub first_halt : List Entry → State → List ℕ → Option Halt
+first_halt entries first [] = None
+first_halt entries first (i ∷ is) = option_or (halts_at entries i (state_at entries first i)) (first_halt entries first is)
+
+-- why the run stops before its end, at the least step at which it does: it departs from the log, or needs what isn't built
+unfoldable pub halt_of : List Entry → State → Option Halt
+halt_of entries first = first_halt entries first (below ((end_of entries).step + 1))

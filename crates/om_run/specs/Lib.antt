@@ -1,0 +1,4 @@
+pub mod Run
+pub mod Departure
+pub mod Replay
+pub mod Walk

@@ -1,0 +1,96 @@
+//! What a log tells of a run: its calls and its end.
+
+ghost use Rattle.std.specs.Prelude.{◌≡◌, ◌∷◌, []};
+ghost use Rattle.om_run.specs.Run.{due, end_of};
+ghost use Rattle.om_run.specs.Departure.{call_before};
+
+use om_log::Entry;
+
+/// What a log tells of a call.
+#[derive(Clone, Copy, Debug, PartialEq, Eq)]
+pub struct Told {
+    /// The call's number, from a7.
+    pub number: u32,
+    /// Its arguments, from a0 to a5.
+    pub arguments: [u32; 6],
+    /// What a0 is afterwards.
+    pub result: u32,
+}
+
+/// What a log tells of its end.
+#[derive(Clone, Copy, Debug, PartialEq, Eq)]
+pub struct Ending {
+    /// The last step.
+    pub step: u64,
+    /// 0 for an exit, 1 for a cut, 2 for a stop.
+    pub cause: u8,
+    /// The exit's first argument, 0, or the stop's code.
+    pub value: u32,
+}
+
+/// The end that a log tells.
+pub(crate) fn find_end(entries: &[Entry<'_>]) -> Ending
+    ensures { result ≡ end_of entries.now }
+{
+    for entry in entries {
+        if let Entry::End { step, cause, value } = entry {
+            return Ending {
+                step: *step,
+                cause: *cause,
+                value: *value,
+            };
+        }
+    }
+    Ending {
+        step: 0,
+        cause: 1,
+        value: 0,
+    }
+}
+
+/// What an entry tells, if it is a call of this step.
+pub(crate) fn told_by(entry: &Entry<'_>, at: u64) -> Option<Told>
+    ensures { result ≡ due (entry.now ∷ []) at }
+{
+    match entry {
+        Entry::Call {
+            step,
+            number,
+            args,
+            result,
+            ..
+        } => {
+            if *step != at {
+                return None;
+            }
+            Some(Told {
+                number: *number,
+                arguments: *args,
+                result: *result,
+            })
+        }
+        Entry::Mark { .. } | Entry::End { .. } => None,
+    }
+}
+
+/// The call that a log tells for a step. It searches the whole log.
+pub(crate) fn find_call(entries: &[Entry<'_>], at: u64) -> Option<Told>
+    ensures { result ≡ due entries.now at }
+{
+    for entry in entries {
+        if let Some(call) = told_by(entry, at) {
+            return Some(call);
+        }
+    }
+    None
+}
+
+/// The call of the step before this one. It searches the whole log.
+pub(crate) fn find_call_before(entries: &[Entry<'_>], at: u64) -> Option<Told>
+    ensures { result ≡ call_before entries.now at }
+{
+    if at == 0 {
+        return None;
+    }
+    find_call(entries, at - 1)
+}
