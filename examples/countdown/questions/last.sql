@@ -1,0 +1,1 @@
+SELECT step, pc, insn FROM states WHERE step = 9

@@ -1,0 +1,1 @@
+SELECT step, pc, a0, a7 FROM states WHERE pc >= 0x10004 AND pc <= 0x10008 AND a0 < 2

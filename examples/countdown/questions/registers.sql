@@ -1,0 +1,1 @@
+SELECT step, a0 FROM states WHERE pc = 65544
