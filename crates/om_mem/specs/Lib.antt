@@ -1,0 +1,5 @@
+pub mod Contents
+pub mod Pages
+pub mod Gives
+pub mod Laid
+pub mod Laws

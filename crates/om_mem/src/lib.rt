@@ -1,0 +1,26 @@
+//! The memory of a 32-bit machine: regions of bytes with rights, read and written byte by byte whatever
+//! the alignment, and kept in pages that tell whether they were written.
+//!
+//! An address wraps: after 2^32 - 1 comes 0.
+#![tactic(auto)]
+
+#[cfg(test)]
+mod access_tests;
+mod laws;
+mod map_fault;
+mod mapping;
+mod memory;
+#[cfg(test)]
+mod page_tests;
+mod pages;
+mod reading;
+mod region;
+mod spot;
+mod writing;
+
+pub use laws::{filling, kept_chain, least_overlap, same_contents};
+pub use map_fault::MapFault;
+pub use mapping::map_regions;
+pub use memory::Memory;
+pub use region::{Region, Regions};
+pub use writing::WriteOutside;

@@ -1,0 +1,87 @@
+//! Pages: the bytes of all regions, laid end to end, in pieces of 4096.
+
+ghost use Rattle.std.specs.Prelude.{◌≡◌, ◌≢◌, ◌*◌, ◌<◌, ◌≤◌, ◌+◌, ◌++◌, ℕ, false, drop, length, replicate, take};
+ghost use Rattle.om_mem.specs.Contents.{IsWhole};
+ghost use Rattle.om_mem.specs.Laid.{piece_of};
+ghost use Rattle.om_mem.specs.Pages.{IsKept, cleared, flag, page_addresses, page_count, page_in, with_page};
+
+use crate::memory::Memory;
+
+/// How many bytes a page has; the last one may have fewer.
+pub(crate) const PAGE_SIZE: usize = 4096;
+
+/// The bytes of a page among those of all pages.
+fn piece(bytes: &[u8], page: u32) -> &[u8]
+    requires { page * 4096 ≤ length bytes.now }
+    ensures { result.now ≡ piece_of bytes.now page }
+{
+    let start = page as usize * PAGE_SIZE;
+    let end = (start + PAGE_SIZE).min(bytes.len());
+    &bytes[start..end]
+}
+
+/// Puts bytes in the place of as many from a page's first one on.
+fn put_piece(bytes: &mut [u8], page: u32, new: &[u8])
+    requires { page * 4096 + length new.now ≤ length bytes.old }
+    ensures { bytes.new ≡ take (page * 4096) bytes.old ++ (new.now ++ drop (page * 4096 + length new.now) bytes.old) }
+{
+    let first = page as usize * PAGE_SIZE;
+    let past = first + new.len();
+    bytes[first..past].copy_from_slice(new);
+}
+
+/// Makes all flags false.
+fn clear(dirty: &mut [bool])
+    ensures { dirty.new ≡ replicate (length dirty.old) false }
+{
+    dirty.fill(false);
+}
+
+impl Memory {
+    /// How many pages there are.
+    pub fn pages(&self) -> u32
+        ensures count { result ≡ page_count self.now.contents.regions }
+        // What holds of all memory: it has a byte for each address of a region and for no other, and a flag a page.
+        ensures whole { IsWhole self.now.contents }
+        ensures flags { length self.now.dirty ≡ result }
+    {
+        ((self.bytes.len() + (PAGE_SIZE - 1)) / PAGE_SIZE) as u32
+    }
+
+    /// The bytes of a page: 4096, or fewer of the last one.
+    pub fn page(&self, page: u32) -> &[u8]
+        requires { page < page_count self.now.contents.regions }
+        ensures { result.now ≡ page_in self.now.contents page }
+    {
+        piece(self.bytes.as_slice(), page)
+    }
+
+    /// A page becomes these bytes, whatever its rights, and counts as written.
+    pub fn set_page(&mut self, page: u32, bytes: &[u8])
+        requires page { page < page_count self.old.contents.regions }
+        requires length { length bytes.now ≡ length (page_addresses self.old.contents.regions page) }
+        ensures contents { self.new.contents ≡ with_page self.old.contents page bytes.now }
+        ensures page { page_in self.new.contents page ≡ bytes.now }
+        ensures others { (other : ℕ) → other ≢ page → page_in self.new.contents other ≡ page_in self.old.contents other }
+        ensures kept { IsKept self.old self.new }
+    {
+        put_piece(self.bytes.as_mut_slice(), page, bytes);
+        self.dirty.as_mut_slice()[page as usize] = true;
+    }
+
+    /// Whether a page was written since the last clearing. One that wasn't is as it was then.
+    pub fn is_dirty(&self, page: u32) -> bool
+        requires { page < page_count self.now.contents.regions }
+        ensures { result ≡ flag self.now.dirty page }
+    {
+        self.dirty.as_slice()[page as usize]
+    }
+
+    /// From here on no page counts as written.
+    pub fn clear_dirty(&mut self)
+        ensures cleared { self.new ≡ cleared self.old }
+        ensures clean { (page : ℕ) → page < page_count self.new.contents.regions → flag self.new.dirty page ≡ false }
+    {
+        clear(self.dirty.as_mut_slice());
+    }
+}
