@@ -1,8 +1,10 @@
 -- What is answered, by the one way in which a log and a query are read.
 use Rattle.std.proofs.Common.{◌≡◌, ℕ, List, refl, sym, ap, subst, ◌∙◌, inl, inr, Ok, Err, Some, None}
 use Rattle.std.specs.Prelude.{Option, Result, IfErr, ◌⊎◌}
-use Rattle.om_elf.specs.Executable.{elf_of}
-use Rattle.om_elf.specs.declared.elf.Elf.{Elf}
+use Rattle.om_elf.specs.Executable.{elf_fault, elf_in}
+use Rattle.om_elf.specs.Gives.{Gives}
+use Rattle.om_elf.specs.declared.fault.ElfFault.{ElfFault}
+use Rattle.om_elf.specs.declared.fault.ElfFault.TheVariants as elf
 use Rattle.om_io.specs.Shelf.{Contents}
 use Rattle.om_log.specs.Grammar.{IsLog}
 use Rattle.om_log.specs.Faults.{IsFault}
@@ -13,7 +15,7 @@ use Rattle.om_parse.specs.declared.fault.ParseFault.{ParseFault}
 use Rattle.om_parse.specs.declared.tree.Query.{Query}
 use Rattle.om_cli.specs.Outcome.{Asked, Outcome, asked_by, depends, found, judged, outcome_for, refused_log, refuses, seen_in, untold, question_of}
 use Rattle.om_cli.specs.Readings.{IsLogReading, IsQueryReading}
-use Rattle.om_cli.specs.Reads.{AreReadings, GivesAnswer, GivesText, HasRead, IsMet, IsUnread, refused_by}
+use Rattle.om_cli.specs.Reads.{AreReadings, GivesAnswer, GivesText, HasRead, IsMet, IsUnread, refused_by, refused_by_elf}
 use Rattle.om_cli.specs.declared.refused.Refused.{Refused}
 use Rattle.om_cli.specs.declared.refused.Refused.TheVariants.{NoMemory, Because, Unread}
 
@@ -33,13 +35,21 @@ only_fault file fault (Err f) reads faults is =
       | inr e ↦ inl (cc)
     ]
 
--- the answer where a log has a fault
-pub log_refused : (exe file : List ℕ) (elf : Elf) (fault : LogFault) (read : Result Log LogFault) (query : Result Query ParseFault)
-    → elf_of exe ≡ Some elf → (fault ≡ log.NoMemory) ⊎ (read ≡ Err fault) → GivesText (judged exe read query) (Err (refused_by fault))
+-- the answer where an executable has a fault
+pub elf_refused : (exe : List ℕ) (fault : ElfFault) (read : Result Log LogFault) (query : Result Query ParseFault)
+    → Gives (elf_fault exe) (elf_in exe) (Err fault) → GivesText (judged exe read query) (Err (refused_by_elf fault))
 unfolding judged
-log_refused exe file elf log.NoMemory read query has way = tt
-log_refused exe file elf fault read query has (inl e) = absurd (cc)
-log_refused exe file elf fault read query has (inr e) = rw (has, e) refl
+elf_refused exe elf.NoMemory read query is = tt
+elf_refused exe elf.Unbuilt read query is = rw is refl
+elf_refused exe fault read query is = rw is refl
+
+-- the answer where a log has a fault
+pub log_refused : (exe : List ℕ) (fault : LogFault) (read : Result Log LogFault) (query : Result Query ParseFault)
+    → elf_fault exe ≡ None → (fault ≡ log.NoMemory) ⊎ (read ≡ Err fault) → GivesText (judged exe read query) (Err (refused_by fault))
+unfolding judged
+log_refused exe log.NoMemory read query has way = tt
+log_refused exe fault read query has (inl e) = absurd (cc)
+log_refused exe fault read query has (inr e) = rw (has, e) refl
 
 -- ---- the files
 

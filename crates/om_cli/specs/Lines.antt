@@ -1,5 +1,7 @@
 -- The lines that are told of refusals, and the exit statuses.
 use Rattle.std.specs.Prelude.{ℕ, List, [], ◌∷◌, ◌++◌, codes, decimal}
+use Rattle.om_elf.specs.declared.fault.ElfFault.{ElfFault}
+use Rattle.om_elf.specs.declared.fault.ElfFault.TheVariants as elf
 use Rattle.om_log.specs.declared.fault.LogFault.{LogFault}
 use Rattle.om_log.specs.declared.fault.LogFault.TheVariants as log
 use Rattle.om_run.specs.declared.departure.Departure.{Departure}
@@ -9,7 +11,7 @@ use Rattle.om_table.specs.Escape.{escaped}
 use Rattle.om_cli.specs.declared.refusal.Part.{Part}
 use Rattle.om_cli.specs.declared.refusal.Part.TheVariants as part
 use Rattle.om_cli.specs.declared.refusal.Refusal.{Refusal}
-use Rattle.om_cli.specs.declared.refusal.Refusal.TheVariants.{Unbuilt, Log, TooLong, Departs}
+use Rattle.om_cli.specs.declared.refusal.Refusal.TheVariants.{Unbuilt, Executable, Log, Overlap, TooLong, Departs}
 
 -- how the program ends
 pub data End : Type 0 where
@@ -27,7 +29,9 @@ pub data End : Type 0 where
 -- the exit status of a refusal
 abbrev pub refusal_status : Refusal → ℕ
 refusal_status (Unbuilt part) = 11
+refusal_status (Executable fault) = 3
 refusal_status (Log fault) = 5
+refusal_status (Overlap a b) = 5
 refusal_status (TooLong steps) = 7
 refusal_status (Departs departure) = 6
 
@@ -45,7 +49,24 @@ word_of part.Words = codes "words"
 word_of part.Executable = codes "executable"
 word_of part.Log = codes "log"
 word_of part.Query = codes "query"
-word_of part.Run = codes "run"
+
+-- the words for two places that share an address
+abbrev pub overlap_words : (a b : ℕ) → List ℕ
+overlap_words a b = codes "overlap " ++ decimal a ++ codes " " ++ decimal b
+
+-- the words for a fault of an executable
+abbrev pub elf_words : ElfFault → List ℕ
+elf_words elf.Short = codes "short"
+elf_words elf.Magic = codes "magic"
+elf_words elf.Class = codes "class"
+elf_words elf.Kind = codes "kind"
+elf_words elf.Machine = codes "machine"
+elf_words elf.Flags = codes "flags"
+elf_words (elf.Table index) = codes "table " ++ decimal index
+elf_words (elf.Overlap a b) = overlap_words a b
+elf_words elf.TooBig = codes "too big"
+elf_words elf.NoMemory = []
+elf_words elf.Unbuilt = []
 
 -- the words for a fault of a log
 abbrev pub fault_words : LogFault → List ℕ
@@ -64,10 +85,12 @@ fault_words (log.Unbuilt at) = []
 abbrev pub reason_words : Reason → List ℕ
 reason_words reason.EndExit = codes "end exit"
 reason_words reason.EndValue = codes "end value"
+reason_words reason.EndStop = codes "end stop"
 reason_words reason.Call = codes "call"
 reason_words reason.Passed = codes "passed"
 reason_words reason.Number = codes "number"
 reason_words (reason.Argument j) = codes "argument " ++ decimal j
+reason_words reason.Stopped = codes "stopped"
 
 -- the words for the step of a departure
 abbrev pub step_words : ℕ → List ℕ
@@ -80,7 +103,9 @@ number_words told found = codes ": log " ++ decimal told ++ codes ", run " ++ de
 -- the line of a refusal, without its line end
 unfoldable pub refusal_line : Refusal → List ℕ
 refusal_line (Unbuilt part) = codes "omni: unbuilt: " ++ word_of part
+refusal_line (Executable fault) = codes "omni: executable: " ++ elf_words fault
 refusal_line (Log fault) = codes "omni: log: " ++ fault_words fault
+refusal_line (Overlap a b) = codes "omni: log: " ++ overlap_words a b
 refusal_line (TooLong steps) = codes "omni: limit: " ++ decimal steps ++ codes " steps, allowed 4000000"
 refusal_line (Departs d) = step_words d.step ++ reason_words d.reason ++ number_words d.told d.found
 

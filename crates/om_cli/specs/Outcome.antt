@@ -1,7 +1,9 @@
 -- What a command means, as a function of its words, of the files that it names, and of what these say.
 use Rattle.std.specs.Prelude.{ℕ, ◌+◌, nat_lt, bytes_eq, codes, if◌then◌else◌, List, [], ◌∷◌, length, map, filter, Option, Some, None, Result, Ok, Err}
-use Rattle.om_elf.specs.Executable.{elf_of}
+use Rattle.om_elf.specs.Executable.{elf_fault, elf_in}
 use Rattle.om_elf.specs.declared.elf.Elf.{Elf}
+use Rattle.om_elf.specs.declared.fault.ElfFault.{ElfFault}
+use Rattle.om_elf.specs.declared.fault.ElfFault.TheVariants as elf
 use Rattle.om_eval.specs.Meaning.{truth}
 use Rattle.om_eval.specs.Row.{Row, row_tuple}
 use Rattle.om_eval.specs.declared.cond.Cond.{Cond}
@@ -12,11 +14,10 @@ use Rattle.om_log.specs.declared.fault.LogFault.TheVariants as log
 use Rattle.om_log.specs.declared.log.Log.{Log}
 use Rattle.om_parse.specs.declared.fault.ParseFault.{ParseFault}
 use Rattle.om_parse.specs.declared.tree.Query.{Query}
-use Rattle.om_run.specs.Departure.{halt_of}
+use Rattle.om_mem.specs.Contents.{overlap_of}
+use Rattle.om_run.specs.Departure.{departure_of}
 use Rattle.om_run.specs.Run.{end_of, state_at, below}
-use Rattle.om_run.specs.declared.departure.Halt.{Halt}
-use Rattle.om_run.specs.declared.departure.Halt.TheVariants as halt
-use Rattle.om_step.specs.Contents.{overlap_of}
+use Rattle.om_run.specs.declared.departure.Departure.{Departure}
 use Rattle.om_step.specs.First.{first_state, regions_of}
 use Rattle.om_step.specs.State.{State}
 use Rattle.om_cli.specs.declared.refusal.Part.{Part}
@@ -84,12 +85,10 @@ read_then name part untold following = depends
 abbrev pub most_steps : ℕ
 most_steps = 4000000
 
--- a run that stops before its end is refused, and one that ends has its answer
-abbrev pub ended_by : Option Halt → List ℕ → Outcome
+-- a run that departs from its log is refused, and any other has its answer
+abbrev pub ended_by : Option Departure → List ℕ → Outcome
 ended_by None text = prints text
-ended_by (Some halt.Ended) text = prints text
-ended_by (Some (halt.Departs departure)) text = refuses (refusal.Departs departure)
-ended_by (Some halt.Unbuilt) text = refuses (refusal.Unbuilt part.Run)
+ended_by (Some departure) text = refuses (refusal.Departs departure)
 
 -- what a question about a run comes to
 abbrev pub judged_run : List Entry → State → Question → Outcome
@@ -97,7 +96,7 @@ judged_run entries first question =
     let last = (end_of entries).step in
     if nat_lt most_steps last
     then refuses (refusal.TooLong last)
-    else ended_by (halt_of entries first) (answer_text entries first question)
+    else ended_by (departure_of entries first) (answer_text entries first question)
 
 -- the query is judged where no regions overlap, and the run where the query is one that is built
 abbrev pub judged_query : List Entry → State → Option Question → Outcome
@@ -105,7 +104,7 @@ judged_query entries first None = refuses (refusal.Unbuilt part.Query)
 judged_query entries first (Some question) = judged_run entries first question
 
 abbrev pub judged_overlap : Option (ℕ × ℕ) → Elf → Log → Option Question → Outcome
-judged_overlap (Some pair) elf log question = refuses (refusal.Unbuilt part.Log)
+judged_overlap (Some pair) elf log question = refuses (refusal.Overlap pair.0 pair.1)
 judged_overlap None elf log question = judged_query log.entries (first_state elf log.start) question
 
 -- the question that a query's text is, if it is one that is built
@@ -122,13 +121,18 @@ abbrev pub judged_log : Elf → Result Log LogFault → Option Question → Outc
 judged_log elf (Err fault) question = refuses (refused_log fault)
 judged_log elf (Ok log) question = judged_overlap (overlap_of (regions_of elf.segments log.start)) elf log question
 
-abbrev pub judged_elf : Option Elf → Result Log LogFault → Option Question → Outcome
-judged_elf None log question = refuses (refusal.Unbuilt part.Executable)
-judged_elf (Some elf) log question = judged_log elf log question
+-- the refusal of an executable
+abbrev pub refused_elf : ElfFault → Refusal
+refused_elf elf.Unbuilt = refusal.Unbuilt part.Executable
+refused_elf fault = refusal.Executable fault
+
+abbrev pub judged_elf : Option ElfFault → Elf → Result Log LogFault → Option Question → Outcome
+judged_elf (Some fault) elf log question = refuses (refused_elf fault)
+judged_elf None elf log question = judged_log elf log question
 
 -- what a query comes to over the bytes of an executable, a log and a query, as these are read
 unfoldable pub judged : List ℕ → Result Log LogFault → Result Query ParseFault → Outcome
-judged exe log query = judged_elf (elf_of exe) log (question_of query)
+judged exe log query = judged_elf (elf_fault exe) (elf_in exe) log (question_of query)
 
 -- what the words come to over the files that are told, where the log and the query are read so
 abbrev pub outcome_for : Option Asked → Option Contents → Result Log LogFault → Result Query ParseFault → Outcome

@@ -2,12 +2,14 @@
 use Rattle.std.specs.Prelude.{◌≡◌, ℕ, ◌⊎◌, List, Option, Some, None, Result, Ok, Err}
 use Rattle.om_io.specs.Counts.{Rose}
 use Rattle.om_io.specs.Shelf.{Contents}
+use Rattle.om_elf.specs.declared.fault.ElfFault.{ElfFault}
+use Rattle.om_elf.specs.declared.fault.ElfFault.TheVariants as elf
 use Rattle.om_log.specs.declared.fault.LogFault.{LogFault}
 use Rattle.om_log.specs.declared.fault.LogFault.TheVariants as log
 use Rattle.om_log.specs.declared.log.Log.{Log}
 use Rattle.om_parse.specs.declared.fault.ParseFault.{ParseFault}
 use Rattle.om_parse.specs.declared.tree.Query.{Query}
-use Rattle.om_cli.specs.Outcome.{Asked, Outcome, Seen, found, longer, missing, untold, prints, refuses, depends, asked_by, seen_in, outcome_of, refused_log}
+use Rattle.om_cli.specs.Outcome.{Asked, Outcome, Seen, found, longer, missing, untold, prints, refuses, depends, asked_by, seen_in, outcome_of, refused_elf, refused_log}
 use Rattle.om_cli.specs.Readings.{IsLogReading, IsQueryReading}
 use Rattle.om_cli.specs.declared.refusal.Part.{Part}
 use Rattle.om_cli.specs.declared.refusal.Refusal.{Refusal}
@@ -57,6 +59,11 @@ abbrev pub HasRead : Refused → Type 0
 HasRead NoMemory = Unit {0}
 HasRead (Because refusal) = Unit {0}
 HasRead (Unread name) = ⊥
+
+-- what a fault of an executable comes to: want of memory, or a refusal
+abbrev pub refused_by_elf : ElfFault → Refused
+refused_by_elf elf.NoMemory = NoMemory
+refused_by_elf fault = Because (refused_elf fault)
 
 -- what a fault of a log comes to: want of memory, or a refusal
 abbrev pub refused_by : LogFault → Refused

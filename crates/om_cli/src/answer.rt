@@ -14,7 +14,7 @@ ghost use Rattle.om_log.specs.declared.fault.LogFault.{LogFault};
 ghost use Rattle.om_log.specs.declared.log.Log.{Log};
 ghost use Rattle.om_parse.specs.declared.fault.ParseFault.{ParseFault};
 ghost use Rattle.om_parse.specs.declared.tree.Query.{Query};
-ghost use Rattle.om_step.specs.Contents.{overlap_of};
+ghost use Rattle.om_mem.specs.Contents.{overlap_of};
 ghost use Rattle.om_step.specs.First.{regions_of};
 
 use crate::asked::{Question, question_of};
@@ -67,7 +67,6 @@ fn answer_run<'a>(
         Err(Stopped::Departs(departure)) => return Err(Refused::Because(Refusal::Departs(
             departure,
         ))),
-        Err(Stopped::Unbuilt) => return Err(Refused::Because(Refusal::Unbuilt(Part::Run))),
     };
     let table = Table {
         names: question.names,
@@ -96,12 +95,23 @@ fn answer_query<'a>(
     let mut replay = match Replay::start(alloc, elf, log) {
         Ok(replay) => replay,
         Err(MapFault::NoMemory) => return Err(Refused::NoMemory),
-        Err(MapFault::Overlap { .. }) => return Err(Refused::Because(Refusal::Unbuilt(Part::Log))),
+        Err(MapFault::Overlap { a, b }) => return Err(Refused::Because(Refusal::Overlap { a, b })),
     };
     match read_question(alloc, sql) {
         Ok(Some(question)) => answer_run(alloc, &mut replay, question),
         Ok(None) => Err(Refused::Because(Refusal::Unbuilt(Part::Query))),
         Err(_) => Err(Refused::NoMemory),
+    }
+}
+
+/// What a fault of an executable comes to.
+fn refused_by_elf<'a>(fault: ElfFault) -> Refused<'a>
+    ensures { result ≡ reads.refused_by_elf fault }
+{
+    match fault {
+        ElfFault::NoMemory => Refused::NoMemory,
+        ElfFault::Unbuilt => Refused::Because(Refusal::Unbuilt(Part::Executable)),
+        _ => Refused::Because(Refusal::Executable(fault)),
     }
 }
 
@@ -130,8 +140,7 @@ pub fn answer_text<'a>(
 {
     let elf = match read_elf(alloc, exe) {
         Ok(elf) => elf,
-        Err(ElfFault::NoMemory) => return Err(Refused::NoMemory),
-        Err(ElfFault::Unbuilt) => return Err(Refused::Because(Refusal::Unbuilt(Part::Executable))),
+        Err(fault) => return Err(refused_by_elf(fault)),
     };
     match read_log(alloc, log) {
         Ok(log) => answer_query(alloc, &elf, &log, sql),

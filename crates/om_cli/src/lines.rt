@@ -1,11 +1,12 @@
 //! The lines that are told of refusals.
 
 ghost use Rattle.std.specs.Prelude.{◌≡◌, [], ◌∷◌, ◌++◌, codes, decimal};
-ghost use Rattle.om_cli.specs.Lines.{fault_words, number_words, reason_words, refusal_line, step_words, word_of};
+ghost use Rattle.om_cli.specs.Lines.{elf_words, fault_words, number_words, overlap_words, reason_words, refusal_line, step_words, word_of};
 ghost use Rattle.om_io.specs.Writing.{Puts};
 
 use crate::refusal::{Part, Refusal};
 use itoa::Buffer;
+use om_elf::ElfFault;
 use om_io::{Sink, SinkFail, put_all, put_pieces};
 use om_log::LogFault;
 use om_run::{Departure, Reason};
@@ -20,7 +21,6 @@ impl Part {
             Part::Executable => b"executable",
             Part::Log => b"log",
             Part::Query => b"query",
-            Part::Run => b"run",
         }
     }
 }
@@ -32,6 +32,42 @@ fn put_place<P: Sink>(sink: &mut P, words: &[u8], at: u64) -> Result<(), SinkFai
 {
     let mut buffer = Buffer::new();
     put_pieces(sink, &[words, buffer.format(at).as_bytes()])
+}
+
+/// Writes the words for two places that share an address.
+fn put_overlap<P: Sink>(sink: &mut P, a: u32, b: u32) -> Result<(), SinkFail>
+    ensures { Puts (P.written sink.old) (P.written sink.new) (P.faults sink.old) (P.faults sink.new)
+        (P.refused_growths sink.old) (P.refused_growths sink.new) (overlap_words a b) result }
+{
+    let (mut first, mut second) = (Buffer::new(), Buffer::new());
+    put_pieces(
+        sink,
+        &[
+            b"overlap ".as_slice(),
+            first.format(a).as_bytes(),
+            b" ",
+            second.format(b).as_bytes(),
+        ],
+    )
+}
+
+/// Writes the words for a fault of an executable.
+fn put_elf_fault<P: Sink>(sink: &mut P, fault: ElfFault) -> Result<(), SinkFail>
+    ensures { Puts (P.written sink.old) (P.written sink.new) (P.faults sink.old) (P.faults sink.new)
+        (P.refused_growths sink.old) (P.refused_growths sink.new) (elf_words fault) result }
+{
+    match fault {
+        ElfFault::Short => put_all(sink, b"short"),
+        ElfFault::Magic => put_all(sink, b"magic"),
+        ElfFault::Class => put_all(sink, b"class"),
+        ElfFault::Kind => put_all(sink, b"kind"),
+        ElfFault::Machine => put_all(sink, b"machine"),
+        ElfFault::Flags => put_all(sink, b"flags"),
+        ElfFault::Table { index } => put_place(sink, b"table ", u64::from(index)),
+        ElfFault::Overlap { a, b } => put_overlap(sink, a, b),
+        ElfFault::TooBig => put_all(sink, b"too big"),
+        ElfFault::NoMemory | ElfFault::Unbuilt => put_all(sink, b""),
+    }
 }
 
 /// Writes the words for a fault of a log.
@@ -60,10 +96,12 @@ fn put_reason<P: Sink>(sink: &mut P, reason: Reason) -> Result<(), SinkFail>
     match reason {
         Reason::EndExit => put_all(sink, b"end exit"),
         Reason::EndValue => put_all(sink, b"end value"),
+        Reason::EndStop => put_all(sink, b"end stop"),
         Reason::Call => put_all(sink, b"call"),
         Reason::Passed => put_all(sink, b"passed"),
         Reason::Number => put_all(sink, b"number"),
         Reason::Argument(place) => put_place(sink, b"argument ", u64::from(place)),
+        Reason::Stopped => put_all(sink, b"stopped"),
     }
 }
 
@@ -123,9 +161,33 @@ fn put_words<P: Sink>(sink: &mut P, refusal: &Refusal) -> Result<(), SinkFail>
 {
     match refusal {
         Refusal::Unbuilt(part) => put_pieces(sink, &[b"omni: unbuilt: ".as_slice(), part.word()]),
+        Refusal::Executable(fault) => put_elf(sink, *fault),
         Refusal::Log(fault) => put_log(sink, *fault),
+        Refusal::Overlap { a, b } => put_log_overlap(sink, *a, *b),
         Refusal::TooLong { steps } => put_limit(sink, *steps),
         Refusal::Departs(departure) => put_departure(sink, departure),
+    }
+}
+
+/// Writes the line of an executable's fault, without its line end.
+fn put_elf<P: Sink>(sink: &mut P, fault: ElfFault) -> Result<(), SinkFail>
+    ensures { Puts (P.written sink.old) (P.written sink.new) (P.faults sink.old) (P.faults sink.new)
+        (P.refused_growths sink.old) (P.refused_growths sink.new) (codes "omni: executable: " ++ elf_words fault) result }
+{
+    match put_all(sink, b"omni: executable: ") {
+        Ok(()) => put_elf_fault(sink, fault),
+        Err(fail) => Err(fail),
+    }
+}
+
+/// Writes the line of regions that share an address, without its line end.
+fn put_log_overlap<P: Sink>(sink: &mut P, a: u32, b: u32) -> Result<(), SinkFail>
+    ensures { Puts (P.written sink.old) (P.written sink.new) (P.faults sink.old) (P.faults sink.new)
+        (P.refused_growths sink.old) (P.refused_growths sink.new) (codes "omni: log: " ++ overlap_words a b) result }
+{
+    match put_all(sink, b"omni: log: ") {
+        Ok(()) => put_overlap(sink, a, b),
+        Err(fail) => Err(fail),
     }
 }
 

@@ -3,6 +3,7 @@
 ghost use Rattle.std.specs.Prelude.{◌≡◌};
 ghost use Rattle.om_cli.specs.Lines.{refusal_status};
 
+use om_elf::ElfFault;
 use om_log::LogFault;
 use om_run::Departure;
 
@@ -17,8 +18,6 @@ pub enum Part {
     Log,
     /// The text of the query.
     Query,
-    /// The run, which needs an instruction that isn't built, or stops.
-    Run,
 }
 
 /// Why a command has no answer, apart from faults of the outside and want of memory.
@@ -26,8 +25,17 @@ pub enum Part {
 pub enum Refusal {
     /// This part isn't built.
     Unbuilt(Part),
+    /// The executable isn't one.
+    Executable(ElfFault),
     /// The log isn't one.
     Log(LogFault),
+    /// The regions at these places of the run's list share an address; the least such pair.
+    Overlap {
+        /// The lesser place.
+        a: u32,
+        /// The greater place.
+        b: u32,
+    },
     /// The run has more steps than are replayed.
     TooLong {
         /// The number of its last step.
@@ -44,7 +52,8 @@ impl Refusal {
     {
         match self {
             Refusal::Unbuilt(_) => 11,
-            Refusal::Log(_) => 5,
+            Refusal::Executable(_) => 3,
+            Refusal::Log(_) | Refusal::Overlap { .. } => 5,
             Refusal::TooLong { .. } => 7,
             Refusal::Departs(_) => 6,
         }

@@ -22,8 +22,6 @@ pub enum Stopped {
     NoMemory,
     /// The run departs from its log.
     Departs(Departure),
-    /// The run stops before its end, or needs what isn't built.
-    Unbuilt,
 }
 
 impl From<NoMemory> for Stopped {
@@ -39,7 +37,7 @@ impl From<NoMemory> for Stopped {
 
 /// The cell of a row at a column, NULL past the 32 registers.
 fn cell<'a>(view: &'a View<'_>, column: ColumnId) -> Value<'a>
-    ensures { owned result ≡ cell_at (row_of view.now.machine.now view.now.step) column }
+    ensures { owned result ≡ cell_at (row_of view.now.machine.now.state view.now.step) column }
 {
     match column {
         ColumnId::Reg(number) if number >= 32 => Value::Null,
@@ -60,7 +58,7 @@ fn kept(alloc: Global, value: &Value<'_>) -> Result<Owned, NoMemory>
 
 /// The cells of a row, one for each column.
 fn cells(alloc: Global, view: &View<'_>, columns: &[ColumnId]) -> Result<Items<Owned>, NoMemory>
-    ensures { IfOk result (λ cells. cells ≡ map (cell_at (row_of view.now.machine.now view.now.step)) columns.now) }
+    ensures { IfOk result (λ cells. cells ≡ map (cell_at (row_of view.now.machine.now.state view.now.step)) columns.now) }
 {
     let mut cells = Items::new(alloc);
     for column in columns {
@@ -88,20 +86,19 @@ fn note(
     Ok(())
 }
 
-/// Why a halt stops the run before its end; none where it is the end.
+/// Why there are no rows, by why the replay halts; none at the run's end.
 fn stopped_by(halt: Halt) -> Option<Stopped>
     ensures { result ≡ stopped halt }
 {
     match halt {
         Halt::Ended => None,
         Halt::Departs(departure) => Some(Stopped::Departs(departure)),
-        Halt::Unbuilt => Some(Stopped::Unbuilt),
     }
 }
 
 /// The rows of a run at which the question's condition is true, from a replay that stands at its first state.
 ///
-/// Errors: `Departs` and `Unbuilt` where the run stops before its end; `NoMemory`.
+/// Errors: `Departs` where the run departs from its log; `NoMemory`.
 pub fn rows_of(
     alloc: Global,
     replay: &mut Replay<'_>,

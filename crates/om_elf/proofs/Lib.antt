@@ -1,1 +1,3 @@
-pub mod ImageLemmas
+pub mod ListLemmas
+pub mod OverlapLemmas
+pub mod ExecutableLemmas

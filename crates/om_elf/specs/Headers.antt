@@ -1,5 +1,6 @@
 -- The ELF header and the program headers: System V gABI, chapter 4, "ELF Header", and chapter 5, "Program Header".
-use Rattle.std.specs.Prelude.{ℕ, ◌+◌, ◌*◌, List, unwrap_or}
+use Rattle.std.specs.Prelude.{ℕ, ◌+◌, ◌*◌, List, map, unwrap_or}
+use Rattle.std.specs.List.{range_with_len}
 use Rattle.om_base.specs.Numbers.{number_at}
 use Rattle.om_elf.specs.declared.file_header.FileHeader.{FileHeader}
 use Rattle.om_elf.specs.declared.program_header.ProgramHeader.{ProgramHeader}
@@ -35,3 +36,11 @@ program_header file at = record {
   p_memsz = word file (at + 20);
   p_flags = word file (at + 24);
 }
+
+-- the table of program headers, each of 32 bytes, that an ELF header tells of
+abbrev pub table_of : List ℕ → FileHeader → List ProgramHeader
+table_of file h = map (λ place. program_header file (h.e_phoff + 32 * place)) (range_with_len 0 h.e_phnum)
+
+-- the program headers of a file, in their order
+unfoldable pub program_headers : List ℕ → List ProgramHeader
+program_headers file = table_of file (file_header file)

@@ -1,4 +1,5 @@
 pub mod Image
 pub mod Headers
+pub mod Overlap
 pub mod Executable
 pub mod Gives

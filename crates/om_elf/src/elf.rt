@@ -1,15 +1,19 @@
 //! The reader of an executable.
 
-ghost use Rattle.std.specs.Prelude.{◌≡◌, ◌+◌, ◌^◌, ◌<◌, ◌≤◌, ◌&&◌, nat_eq, nat_le, length, IsTrue, IfOk};
-ghost use Rattle.om_elf.specs.Executable.{has_magic, has_class, has_flags, has_one_program_header, is_loadable, image_of, elf_of};
+ghost use Rattle.std.specs.Prelude.{◌≡◌, ◌+◌, ◌*◌, ◌^◌, ◌<◌, ◌≤◌, false, length, nat_le, position, vec_len, All, IfOk, IfErr, IfSome};
+ghost use Rattle.om_elf.specs.Executable.{elf_fault, elf_in, first_fault, images_of, is_misplaced, memory_of, program_faults};
 ghost use Rattle.om_elf.specs.Gives.{Gives};
-ghost use Rattle.om_elf.specs.Image.{AreLoadable, FitsMemory};
+ghost use Rattle.om_elf.specs.Headers.{table_of};
+ghost use Rattle.om_elf.specs.Image.{AreLoadable};
+ghost use Rattle.om_elf.specs.declared.fault.ElfFault.TheVariants.{NoMemory};
 
+use crate::fault::ElfFault;
 use crate::file_header::FileHeader;
+use crate::overlap::overlap;
 use crate::program_header::ProgramHeader;
 use crate::segment::Segment;
 use om_base::Items;
-use std::alloc::{AllocFailed, Global};
+use std::alloc::Global;
 
 /// A static executable, as far as a replay needs it.
 #[derive(Debug, Drop)]
@@ -22,103 +26,109 @@ pub struct Elf<'a> {
     pub segments: Items<Segment<'a>>,
 }
 
-/// Why a file can't be read as an executable.
-#[derive(Clone, Copy, Debug, PartialEq, Eq)]
-pub enum ElfFault {
-    /// No memory was left.
-    NoMemory,
-    /// The file isn't an executable of the form that is built.
-    Unbuilt,
-}
+/// The most memory that all segments together can take, in bytes: 32 MiB.
+const MOST_MEMORY: u64 = 33_554_432;
 
-impl<T: Drop> From<AllocFailed<T>> for ElfFault {
-    ghost use Rattle.om_elf.specs.declared.elf.ElfFault.TheVariants.{NoMemory};
-
-    ghost from_gives = { λ _ fault. fault ≡ NoMemory };
-
-    fn from(_error: AllocFailed<T>) -> ElfFault {
-        ElfFault::NoMemory
+/// The table of program headers.
+#[tactic(auto, using(crate::proofs::ExecutableLemmas::tables))]
+fn read_programs(
+    alloc: Global,
+    file: &[u8],
+    header: &FileHeader,
+) -> Result<Vec<ProgramHeader>, ElfFault>
+    ensures table { IfOk result (λ programs. programs.items ≡ table_of file.now header.now) }
+    ensures few { IfOk result (λ programs. vec_len programs < 65536) }
+    ensures memory { IfErr result (λ fault. fault ≡ NoMemory) }
+{
+    let mut programs = Vec::new(alloc);
+    for place in 0..header.e_phnum {
+        programs.push(ProgramHeader::at(file, header.e_phoff as usize + 32 * usize::from(place)))?;
     }
+    Ok(programs)
 }
 
-/// Whether the file begins as every ELF file does.
-fn has_magic_number(file: &[u8]) -> bool
-    requires { 52 ≤ length file.now }
-    ensures { result ≡ has_magic file.now }
+/// The place of the first header whose segment can't be loaded.
+fn first_misplaced(file: &[u8], programs: &[ProgramHeader]) -> Option<usize>
+    ensures place { result ≡ position (is_misplaced file.now) programs.now }
+    ensures within { IfSome result (λ place. place < length programs.now) }
 {
-    file[0] == 0x7f && file[1] == b'E' && file[2] == b'L' && file[3] == b'F'
+    programs
+        .iter()
+        .position(|program| program.is_misplaced(file))
 }
 
-/// Whether the file is of 32 bits and little-endian.
-fn has_known_class(file: &[u8]) -> bool
-    requires { 52 ≤ length file.now }
-    ensures { result ≡ has_class file.now }
+/// Whether the segments together fit into the memory that they can take.
+fn fit_memory(programs: &[ProgramHeader]) -> bool
+    ensures { result ≡ nat_le (memory_of programs.now) 33554432 }
 {
-    file[4] == 1 && file[5] == 1
-}
-
-/// Whether it is an executable for RISC-V without extensions that aren't built.
-fn is_for_this_machine(header: &FileHeader) -> bool
-    ensures { result ≡ (nat_eq header.now.e_type 2 && nat_eq header.now.e_machine 243 && has_flags header.now) }
-{
-    header.e_type == 2 && header.e_machine == 243 && header.e_flags & 15 == 0
-}
-
-/// Whether the one program header lies in the file.
-fn has_program_header(file: &[u8], header: &FileHeader) -> bool
-    ensures { result ≡ has_one_program_header file.now header.now }
-{
-    header.e_phnum == 1 && header.e_phentsize == 32 && header.e_phoff as usize + 32 <= file.len()
-}
-
-/// Whether the segment can be loaded.
-fn is_segment(file: &[u8], program: &ProgramHeader) -> bool
-    ensures { result ≡ is_loadable file.now program.now }
-{
-    program.p_type == 1
-        && program.p_offset as usize + program.p_filesz as usize <= file.len()
-        && program.p_filesz <= program.p_memsz
-        && u64::from(program.p_vaddr) + u64::from(program.p_memsz) <= 1 << 32
-        && program.p_memsz <= 33_554_432
-}
-
-/// The segment that a program header describes.
-fn segment_of<'a>(file: &'a [u8], program: &ProgramHeader) -> Segment<'a>
-    requires { IsTrue (is_loadable file.now program.now) }
-    ensures image { result ≡ image_of file.now program.now }
-    ensures fits { FitsMemory result }
-    ensures small { result.memsz ≤ 33554432 }
-{
-    let start = program.p_offset as usize;
-    Segment {
-        vaddr: program.p_vaddr,
-        memsz: program.p_memsz,
-        rights: (program.p_flags % 8) as u8,
-        bytes: &file[start..start + program.p_filesz as usize],
+    let mut total = 0u64;
+    for program in programs {
+        if program.is_load() {
+            total += u64::from(program.p_memsz);
+            if total > MOST_MEMORY {
+                return false;
+            }
+        }
     }
+    true
+}
+
+/// The first fault that the program headers show.
+fn program_fault(file: &[u8], programs: &[ProgramHeader]) -> Option<ElfFault>
+    requires { length programs.now < 65536 }
+    ensures { result ≡ first_fault (program_faults file.now programs.now) }
+{
+    if let Some(place) = first_misplaced(file, programs) {
+        return Some(ElfFault::Table {
+            index: 100 + place as u32,
+        });
+    }
+    if let Some((a, b)) = overlap(programs) {
+        return Some(ElfFault::Overlap { a, b });
+    }
+    if !fit_memory(programs) {
+        return Some(ElfFault::TooBig);
+    }
+    None
+}
+
+/// The segments of the headers of type `PT_LOAD`, in header order.
+fn read_segments<'a>(
+    alloc: Global,
+    file: &'a [u8],
+    programs: &[ProgramHeader],
+) -> Result<Vec<Segment<'a>>, ElfFault>
+    requires { All (λ program. is_misplaced file.now program ≡ false) programs.now }
+    ensures segments { IfOk result (λ segments. segments.items ≡ images_of file.now programs.now) }
+    ensures memory { IfErr result (λ fault. fault ≡ NoMemory) }
+{
+    let mut segments = Vec::new(alloc);
+    for program in programs {
+        if program.is_load() {
+            segments.push(Segment::of(file, program))?;
+        }
+    }
+    Ok(segments)
 }
 
 /// Reads an executable, whose segments borrow the file.
 ///
-/// Errors: `Unbuilt` where the file isn't of the form that is built; `NoMemory`.
-#[tactic(auto, using(crate::proofs::ImageLemmas::one_segment), unfolding(crate::specs::Executable::elf_of))]
+/// A file of many program headers takes time in the square of their number, a few seconds at most.
+#[tactic(auto, using(crate::proofs::ExecutableLemmas::readings))]
 pub fn read_elf<'a>(alloc: Global, file: &'a [u8]) -> Result<Elf<'a>, ElfFault>
-    ensures gives { Gives (elf_of file.now) result }
+    ensures gives { Gives (elf_fault file.now) (elf_in file.now) result }
     ensures loadable { IfOk result (λ elf. AreLoadable elf.segments) }
 {
-    if file.len() < 52 || !has_magic_number(file) || !has_known_class(file) {
-        return Err(ElfFault::Unbuilt);
-    }
     let header = FileHeader::of(file);
-    if !is_for_this_machine(&header) || !has_program_header(file, &header) || header.e_shnum != 0 {
-        return Err(ElfFault::Unbuilt);
+    if let Some(fault) = header.fault(file) {
+        return Err(fault);
     }
-    let program = ProgramHeader::at(file, header.e_phoff as usize);
-    if !is_segment(file, &program) {
-        return Err(ElfFault::Unbuilt);
+    let table = read_programs(alloc, file, &header)?;
+    let programs = table.as_slice();
+    if let Some(fault) = program_fault(file, programs) {
+        return Err(fault);
     }
-    let mut segments = Vec::new(alloc);
-    segments.push(segment_of(file, &program))?;
+    let segments = read_segments(alloc, file, programs)?;
     Ok(Elf {
         entry: header.e_entry,
         flags: header.e_flags,

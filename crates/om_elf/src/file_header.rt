@@ -1,8 +1,10 @@
 //! The ELF header: the gABI, chapter 4, "ELF Header".
 
-ghost use Rattle.std.specs.Prelude.{◌≡◌, unwrap_or};
+ghost use Rattle.std.specs.Prelude.{◌≡◌, ◌≤◌, length, unwrap_or};
 ghost use Rattle.om_base.specs.Numbers.{number_at};
+ghost use Rattle.om_elf.specs.Executable.{first_fault, has_class, has_flags, has_magic, has_table, header_faults};
 
+use crate::fault::ElfFault;
 use om_base::{u16_at, u32_at};
 
 /// The fields of the ELF header that a reader of executables looks at.
@@ -40,6 +42,25 @@ pub fn word_at(file: &[u8], at: usize) -> u32
     u32_at(file, at).unwrap_or(0)
 }
 
+/// Whether the file begins as every ELF file does.
+fn has_magic_number(file: &[u8]) -> bool
+    requires { 52 ≤ length file.now }
+    ensures { result ≡ has_magic file.now }
+{
+    file[0] == 0x7f && file[1] == b'E' && file[2] == b'L' && file[3] == b'F'
+}
+
+/// Whether the file is of 32 bits and little-endian.
+fn has_known_class(file: &[u8]) -> bool
+    requires { 52 ≤ length file.now }
+    ensures { result ≡ has_class file.now }
+{
+    file[4] == 1 && file[5] == 1
+}
+
+/// The flags of RVC, of the two float ABIs' bits, and of RVE: RISC-V psABI, "File Header".
+const UNKNOWN_FLAGS: u32 = 15;
+
 impl FileHeader {
     ghost use Rattle.om_elf.specs.Headers.{file_header};
 
@@ -57,5 +78,52 @@ impl FileHeader {
             e_phnum: half_at(file, 44),
             e_shnum: half_at(file, 48),
         }
+    }
+
+    /// Whether no flag stands for what isn't supported.
+    fn has_known_flags(&self) -> bool
+        ensures { result ≡ has_flags self.now }
+    {
+        self.e_flags & UNKNOWN_FLAGS == 0
+    }
+
+    /// Whether the file holds the table of program headers.
+    fn has_program_headers(&self, file: &[u8]) -> bool
+        ensures { result ≡ has_table file.now self.now }
+    {
+        self.e_phnum == 0
+            || self.e_phentsize == 32
+                && self.e_phoff as usize + 32 * usize::from(self.e_phnum) <= file.len()
+    }
+
+    /// The first fault that the header shows.
+    pub fn fault(&self, file: &[u8]) -> Option<ElfFault>
+        ensures { result ≡ first_fault (header_faults file.now self.now) }
+    {
+        if file.len() < 52 {
+            return Some(ElfFault::Short);
+        }
+        if !has_magic_number(file) {
+            return Some(ElfFault::Magic);
+        }
+        if !has_known_class(file) {
+            return Some(ElfFault::Class);
+        }
+        if self.e_type != 2 {
+            return Some(ElfFault::Kind);
+        }
+        if self.e_machine != 243 {
+            return Some(ElfFault::Machine);
+        }
+        if !self.has_known_flags() {
+            return Some(ElfFault::Flags);
+        }
+        if !self.has_program_headers(file) {
+            return Some(ElfFault::Table { index: 0 });
+        }
+        if self.e_shnum != 0 {
+            return Some(ElfFault::Unbuilt);
+        }
+        None
     }
 }

@@ -1,8 +1,11 @@
 //! A program header: the gABI, chapter 5, "Program Header".
 
 ghost use Rattle.std.specs.Prelude.{◌≡◌, ◌+◌, ◌^◌, ◌<◌};
+ghost use Rattle.om_elf.specs.Executable.{has_place, is_misplaced};
+ghost use Rattle.om_elf.specs.Overlap.{is_load, shares};
 
 use crate::file_header::word_at;
+use std::cmp;
 
 /// The fields of a program header, but for `p_paddr` and `p_align`, which are not looked at.
 #[derive(Clone, Copy, Debug)]
@@ -26,7 +29,7 @@ impl ProgramHeader {
 
     /// The header that begins at the file offset `at`.
     pub fn at(file: &[u8], at: usize) -> ProgramHeader
-        requires { at < 2 ^ 32 }
+        requires { at < 2 ^ 33 }
         ensures { result ≡ program_header file.now at }
     {
         ProgramHeader {
@@ -37,5 +40,44 @@ impl ProgramHeader {
             p_memsz: word_at(file, at + 20),
             p_flags: word_at(file, at + 24),
         }
+    }
+
+    /// Whether its segment is loaded into memory.
+    pub fn is_load(&self) -> bool
+        ensures { result ≡ is_load self.now }
+    {
+        self.p_type == 1
+    }
+
+    /// The address past the segment's memory.
+    fn end(&self) -> u64
+        ensures { result ≡ self.now.p_vaddr + self.now.p_memsz }
+    {
+        u64::from(self.p_vaddr) + u64::from(self.p_memsz)
+    }
+
+    /// Whether the segment's bytes lie in the file, and its memory in the address space.
+    fn has_place(&self, file: &[u8]) -> bool
+        ensures { result ≡ has_place file.now self.now }
+    {
+        self.p_offset as usize + self.p_filesz as usize <= file.len()
+            && self.p_filesz <= self.p_memsz
+            && self.end() <= 1 << 32
+    }
+
+    /// Whether its segment is to be loaded and can't be.
+    pub fn is_misplaced(&self, file: &[u8]) -> bool
+        ensures { result ≡ is_misplaced file.now self.now }
+    {
+        self.is_load() && !self.has_place(file)
+    }
+
+    /// Whether both are loaded into memory and share an address there.
+    pub fn shares(&self, other: &ProgramHeader) -> bool
+        ensures { result ≡ shares self.now other.now }
+    {
+        self.is_load()
+            && other.is_load()
+            && u64::from(cmp::max(self.p_vaddr, other.p_vaddr)) < cmp::min(self.end(), other.end())
     }
 }

@@ -1,5 +1,5 @@
 -- The truth of AND, found member by member.
-use Rattle.std.proofs.Common.{◌≡◌, ℕ, ◌+◌, ◌<◌, ◌≤◌, false, List, length, map, take, get_or, if◌then◌else◌, refl, sym, ap, ◌∙◌, arith}
+use Rattle.std.proofs.Common.{◌≡◌, ℕ, ◌+◌, ◌<◌, ◌≤◌, false, List, [], ◌∷◌, length, map, take, get_or, if◌then◌else◌, refl, sym, ap, ◌∙◌, arith}
 use Rattle.std.specs.List.{list_any}
 use Rattle.std.proofs.Math.ListN.{get_or-map}
 use Rattle.std.proofs.lemmas.List.{take_all, length-map}
@@ -24,6 +24,17 @@ truth-Compare tuple compare left right = ap (truth tuple) (sym (rolls-Compare co
 pub truth-And : (tuple : Tuple) (members : List Cond) → truth tuple (view.And members) ≡ all_of (map (truth tuple) members)
 unfolding truth
 truth-And tuple members = ap (truth tuple) (sym (rolls-And members)) ∙ fold-roll-Cond Truth (truth_step tuple) (Cond-F.And members)
+
+all_of_one : (found : Truth) → all_of (found ∷ []) ≡ found
+all_of_one Yes = refl
+all_of_one No = refl
+all_of_one Unknown = refl
+
+-- of one member it is the truth of that
+pub truth_one : (tuple : Tuple) (members : List Cond) (only : Cond) → length members ≡ 1 → only ≡ get_or members 0 only → truth tuple only ≡ truth tuple (view.And members)
+truth_one tuple [] only one is = absurd (omega (arith, one))
+truth_one tuple (member ∷ []) only one is = rw truth-And (ap (truth tuple) is ∙ sym (all_of_one (truth tuple member)))
+truth_one tuple (member ∷ other ∷ members) only one is = absurd (omega (arith, one))
 
 abbrev truths : Tuple → List Cond → List Truth
 truths tuple members = map (truth tuple) members

@@ -21,6 +21,7 @@ pub trait Cells {
 impl<V: RowView> Cells for V {
     ghost tuple = { λ view. row_tuple (V.answers view) };
 
+    #[inline(always)]
     fn cell(&self, _table: u32, column: ColumnId) -> Value<'_> {
         RowView::cell(self, column)
     }

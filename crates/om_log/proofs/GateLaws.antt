@@ -1,5 +1,5 @@
 -- What the gate says of an entry, and of the bytes that begin with it.
-use Rattle.std.proofs.Common.{◌≡◌, ℕ, suc, ◌+◌, ◌*◌, ◌^◌, ◌<◌, ◌≤◌, true, leb, List, [], ◌∷◌, ◌++◌, length, refl, sym, ap, ◌∙◌, append_assoc, arith, inl, inr, ◌⊎◌}
+use Rattle.std.proofs.Common.{◌≡◌, ℕ, suc, ◌+◌, ◌*◌, ◌^◌, ◌<◌, ◌≤◌, true, leb, List, [], ◌∷◌, ◌++◌, length, refl, ap, ◌∙◌, append_assoc, arith, inl, inr, ◌⊎◌}
 use Rattle.std.specs.List.{flat_map}
 use Rattle.std.proofs.lemmas.Bool.{cases_eq, cases_lt, le-leb}
 use Rattle.std.proofs.lemmas.List.{take_at, drop_at, length-append}
@@ -62,37 +62,14 @@ end_kind : (step cause value : ℕ) (tail : List ℕ) → field_at 1 (spelling (
 unfolding spelling
 end_kind step cause value tail = kind_at 3 _
 
-end_cause : (step cause value : ℕ) (tail : List ℕ) → cause < 256 → field_at 1 (spelling (End step cause value) ++ tail) 9 ≡ cause
-unfolding spelling
-end_cause step cause value tail fits =
-    let s = le_bytes 8 step in
-    let c = le_bytes 1 cause in
-    let v = le_bytes 4 value in
-    let front : List ℕ = 3 ∷ s in
-    let len : length front ≡ 9 = ap suc (length-le_bytes 8 step) in
-    let same : ((s ++ c) ++ v) ++ tail ≡ s ++ (c ++ (v ++ tail)) = append_assoc (s ++ c) v tail ∙ append_assoc s c (v ++ tail) in
-    ap (λ (x : List ℕ). field_at 1 (3 ∷ x) 9) same ∙ field_at-spelling front 1 cause (v ++ tail) 9 len fits
-
-end_length : (step cause value : ℕ) (tail : List ℕ) → 14 ≤ length (spelling (End step cause value) ++ tail)
-unfolding spelling
-end_length step cause value tail =
-    let s = le_bytes 8 step in
-    let c = le_bytes 1 cause in
-    let v = le_bytes 4 value in
-    let behind : 13 ≤ length (((s ++ c) ++ v) ++ tail) = omega (arith, length-append ((s ++ c) ++ v) tail, length-append (s ++ c) v, length-append s c, length-le_bytes 8 step, length-le_bytes 1 cause, length-le_bytes 4 value) in
-    let whole : 14 ≤ suc (length (((s ++ c) ++ v) ++ tail)) = omega arith in
-    whole
-
 -- bytes that begin with an entry that is read by now aren't held up
 pub built_passes : (e : Entry) (tail : List ℕ) → Fits e → IsBuilt e → IsUnbuilt (spelling e ++ tail) → ⊥
 unfolding IsUnbuilt Fits
 built_passes (Call step number args result writes) tail f built (inl mark) = omega (arith, call_kind step number args result writes tail)
-built_passes (Call step number args result writes) tail f built (inr (inl call)) = omega (arith, call.1, call_count step number args result writes tail f.2 f.5, ap length built)
-built_passes (Call step number args result writes) tail f built (inr (inr end)) = omega (arith, end.0, call_kind step number args result writes tail)
+built_passes (Call step number args result writes) tail f built (inr call) = omega (arith, call.1, call_count step number args result writes tail f.2 f.5, ap length built)
 built_passes (Mark step pc sum) tail f built h = built
 built_passes (End step cause value) tail f built (inl mark) = omega (arith, end_kind step cause value tail)
-built_passes (End step cause value) tail f built (inr (inl call)) = omega (arith, call.0, end_kind step cause value tail)
-built_passes (End step cause value) tail f built (inr (inr end)) = built (sym (end_cause step cause value tail f.1) ∙ end.2)
+built_passes (End step cause value) tail f built (inr call) = omega (arith, call.0, end_kind step cause value tail)
 
 no_writes : (writes : List Chunk) → (0 < length writes → ⊥) → writes ≡ []
 no_writes [] none = refl
@@ -102,34 +79,19 @@ no_writes (w ∷ ws) none = absurd (none (let h : 0 < suc (length ws) = omega ar
 pub passes_built : (e : Entry) (tail : List ℕ) → Fits e → (IsUnbuilt (spelling e ++ tail) → ⊥) → IsBuilt e
 unfolding IsUnbuilt Fits
 passes_built (Call step number args result writes) tail f passes =
-    no_writes writes (λ some. passes (inr (inl (call_kind step number args result writes tail, omega (arith, call_count step number args result writes tail f.2 f.5)))))
+    no_writes writes (λ some. passes (inr (call_kind step number args result writes tail, omega (arith, call_count step number args result writes tail f.2 f.5))))
 passes_built (Mark step pc sum) tail f passes = passes (inl (mark_kind step pc sum tail))
-passes_built (End step cause value) tail f passes =
-    λ stop. passes (inr (inr (end_kind step cause value tail, end_length step cause value tail, end_cause step cause value tail f.1 ∙ stop)))
+passes_built (End step cause value) tail f passes = tt
 
 held_call : (rest : List ℕ) → field_at 1 rest 0 ≡ 1 → field_at 4 rest 41 ≤ 0 → IsUnbuilt rest → ⊥
 unfolding IsUnbuilt
 held_call rest call none (inl h) = omega arith
-held_call rest call none (inr (inl h)) = omega (arith, h.1)
-held_call rest call none (inr (inr h)) = omega (arith, h.0)
+held_call rest call none (inr h) = omega (arith, h.1)
 
-held_other : (rest : List ℕ) → (field_at 1 rest 0 ≡ 2 → ⊥) → (field_at 1 rest 0 ≡ 1 → ⊥) → (field_at 1 rest 0 ≡ 3 → ⊥) → IsUnbuilt rest → ⊥
+held_other : (rest : List ℕ) → (field_at 1 rest 0 ≡ 2 → ⊥) → (field_at 1 rest 0 ≡ 1 → ⊥) → IsUnbuilt rest → ⊥
 unfolding IsUnbuilt
-held_other rest a b c (inl h) = a h
-held_other rest a b c (inr (inl h)) = b h.0
-held_other rest a b c (inr (inr h)) = c h.0
-
-held_short : (rest : List ℕ) → field_at 1 rest 0 ≡ 3 → length rest < 14 → IsUnbuilt rest → ⊥
-unfolding IsUnbuilt
-held_short rest end short (inl h) = omega arith
-held_short rest end short (inr (inl h)) = omega (arith, h.0)
-held_short rest end short (inr (inr h)) = omega (arith, h.1)
-
-held_end : (rest : List ℕ) → field_at 1 rest 0 ≡ 3 → (field_at 1 rest 9 ≡ 2 → ⊥) → IsUnbuilt rest → ⊥
-unfolding IsUnbuilt
-held_end rest end other (inl h) = omega arith
-held_end rest end other (inr (inl h)) = omega (arith, h.0)
-held_end rest end other (inr (inr h)) = other h.2
+held_other rest a b (inl h) = a h
+held_other rest a b (inr h) = b h.0
 
 -- the gate is a test
 pub gate_cases : (rest : List ℕ) → IsUnbuilt rest ⊎ (IsUnbuilt rest → ⊥)
@@ -139,18 +101,9 @@ gate_cases rest =
       | inl mark ↦ inl (inl mark)
       | inr not2 ↦ elim (cases_eq (field_at 1 rest 0) 1) [
         | inl call ↦ elim (cases_lt 0 (field_at 4 rest 41)) [
-          | inl some ↦ inl (inr (inl (call, some)))
+          | inl some ↦ inl (inr (call, some))
           | inr none ↦ inr (held_call rest call none)
         ]
-        | inr not1 ↦ elim (cases_eq (field_at 1 rest 0) 3) [
-          | inr not3 ↦ inr (held_other rest not2 not1 not3)
-          | inl end ↦ elim (cases_lt (length rest) 14) [
-            | inl short ↦ inr (held_short rest end short)
-            | inr whole ↦ elim (cases_eq (field_at 1 rest 9) 2) [
-              | inl stop ↦ inl (inr (inr (end, whole, stop)))
-              | inr other ↦ inr (held_end rest end other)
-            ]
-          ]
-        ]
+        | inr not1 ↦ inr (held_other rest not2 not1)
       ]
     ]

@@ -28,7 +28,7 @@ pub enum LogFault {
     Trailing { at: u64 },
     /// The regions of the header aren't lawful.
     Region,
-    /// The entry is one that isn't read yet: a MARK, a CALL with writes, or an END by a stop.
+    /// The entry is one that isn't read yet: a MARK, or a CALL with writes.
     Unbuilt { at: u64 },
 }
 

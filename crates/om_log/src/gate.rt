@@ -14,9 +14,6 @@ pub(crate) fn is_unbuilt(rest: &[u8]) -> bool
     if kind == 1 {
         return count_at(rest, 41) > 0;
     }
-    if kind == 3 {
-        return rest.len() >= 14 && byte_at(rest, 9) == 2;
-    }
     kind == 2
 }
 

@@ -71,7 +71,6 @@ fn tells_the_first_fault(rt: HostRuntime) -> Result<(), Fail> {
         (Damage::Set(20, 2), LogFault::Unbuilt { at: 20 }),
         (Damage::Set(61, 1), LogFault::Unbuilt { at: 20 }),
         (Damage::Set(66, 8), LogFault::Order { at: 65 }),
-        (Damage::Set(74, 2), LogFault::Unbuilt { at: 65 }),
         (Damage::Set(74, 3), LogFault::Kind { at: 65 }),
     ];
     for (damage, want) in rows {
@@ -87,6 +86,10 @@ fn tells_the_first_fault(rt: HostRuntime) -> Result<(), Fail> {
         }
         assert_eq!(rt; read_log(rt.alloc(), &file[..len]).err(), Some(want));
     }
+    let mut stopped = LOG;
+    stopped[74] = 2;
+    stopped[75] = 6;
+    assert!(rt; read_log(rt.alloc(), &stopped).is_ok());
     let mut longer = [0; 80];
     longer[..79].copy_from_slice(&LOG);
     assert_eq!(rt;

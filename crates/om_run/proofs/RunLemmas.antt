@@ -1,22 +1,26 @@
--- The first halt of a run, step by step, and what it depends on.
+-- The first departure of a run, step by step, and what it depends on.
 use Rattle.std.proofs.Common.{◌≡◌, ℕ, zero, suc, ◌+◌, ◌<◌, ◌≤◌, Bool, true, false, nat_eq, nat_lt, if◌then◌else◌, List, [], ◌∷◌, ◌++◌, Option, Some, None, Result, Ok, Err, refl, sym, ap, ◌∙◌, arith}
 use Rattle.std.proofs.lemmas.Bool.{ltb-true, ne_eqb}
-use Rattle.std.specs.Option.{option_or}
+use Rattle.std.specs.Option.{option_map, option_or}
 use Rattle.om_log.specs.Grammar.{step_of}
 use Rattle.om_log.specs.declared.entry.Entry.{Entry}
 use Rattle.om_log.specs.declared.entry.Entry.TheVariants.{Call, Mark, End}
 use Rattle.om_step.specs.State.{State}
 use Rattle.om_step.specs.Step.{outcome}
-use Rattle.om_run.specs.Departure.{first_halt, halts_at, halts_by}
+use Rattle.om_run.specs.Departure.{departs_at, departs_by, first_departure, without_last}
 use Rattle.om_run.specs.Run.{AreAfter, after_by, after_step, below, due, end_of, state_at}
-use Rattle.om_run.specs.Replay.{Place, goes_on, here, moved, place_after, touched_by_step, verdict_at}
+use Rattle.om_run.specs.Replay.{Place, beginning, goes_on, here, moved, place_after, touched_by_step, verdict_at}
+use Rattle.om_run.specs.declared.departure.Departure.{Departure}
 use Rattle.om_run.specs.declared.departure.Halt.{Halt}
 use Rattle.om_run.specs.declared.departure.Halt.TheVariants.{Ended}
-use Rattle.om_step.specs.declared.machine.Touched.{Touched}
+use Rattle.om_step.specs.declared.outcome.Touched.{Touched}
 use Rattle.om_run.specs.declared.told.Told.{Told}
-use Rattle.om_run.proofs.WalkLemmas.{err, goes_before, halts_before}
+use Rattle.om_run.specs.declared.told.Ending.{Ending}
+use Rattle.om_step.specs.declared.outcome.Outcome.{Outcome}
+use Rattle.om_step.specs.declared.outcome.Outcome.TheVariants.{Next, Call as StandsAtCall, Stop}
+use Rattle.om_run.proofs.WalkLemmas.{err, goes_before, departs_before}
 
--- ---- the first halt of one step more
+-- ---- the first departure of one step more
 
 or_assoc : {T : Type 0} (a b c : Option T) → option_or a (option_or b c) ≡ option_or (option_or a b) c
 or_assoc None b c = refl
@@ -26,22 +30,22 @@ or_none : {T : Type 0} (a : Option T) → option_or a None ≡ a
 or_none None = refl
 or_none (Some a) = refl
 
--- the first halt of some steps and of some after them
-pub first_halt_append : (entries : List Entry) (first : State) (xs ys : List ℕ)
-    → first_halt entries first (xs ++ ys) ≡ option_or (first_halt entries first xs) (first_halt entries first ys)
-first_halt_append entries first [] ys = refl
-first_halt_append entries first (x ∷ xs) ys =
-    ap (option_or (halts_at entries x (state_at entries first x))) (first_halt_append entries first xs ys)
-    ∙ or_assoc (halts_at entries x (state_at entries first x)) (first_halt entries first xs) (first_halt entries first ys)
+-- the first departure of some steps and of some after them
+pub first_departure_append : (entries : List Entry) (first : State) (xs ys : List ℕ)
+    → first_departure entries first (xs ++ ys) ≡ option_or (first_departure entries first xs) (first_departure entries first ys)
+first_departure_append entries first [] ys = refl
+first_departure_append entries first (x ∷ xs) ys =
+    ap (option_or (departs_at entries x (state_at entries first x))) (first_departure_append entries first xs ys)
+    ∙ or_assoc (departs_at entries x (state_at entries first x)) (first_departure entries first xs) (first_departure entries first ys)
 
--- the first halt up to a step
-pub first_halt_next : (entries : List Entry) (first : State) (i : ℕ)
-    → first_halt entries first (below (i + 1)) ≡ option_or (first_halt entries first (below i)) (halts_at entries i (state_at entries first i))
-first_halt_next entries first i =
+-- the first departure up to a step
+pub first_departure_next : (entries : List Entry) (first : State) (i : ℕ)
+    → first_departure entries first (below (i + 1)) ≡ option_or (first_departure entries first (below i)) (departs_at entries i (state_at entries first i))
+first_departure_next entries first i =
     let one : i + 1 ≡ suc i = omega arith in
-    ap (λ n. first_halt entries first (below n)) one
-    ∙ first_halt_append entries first (below i) (i ∷ [])
-    ∙ ap (option_or (first_halt entries first (below i))) (or_none (halts_at entries i (state_at entries first i)))
+    ap (λ n. first_departure entries first (below n)) one
+    ∙ first_departure_append entries first (below i) (i ∷ [])
+    ∙ ap (option_or (first_departure entries first (below i))) (or_none (departs_at entries i (state_at entries first i)))
 
 -- ---- what later entries change
 
@@ -73,29 +77,51 @@ states_same i kept a b first later_a later_b (suc j) h =
     ap (after_step (kept ++ a) j) (states_same i kept a b first later_a later_b j (omega arith))
     ∙ ap (λ (call : Option Told). after_by (outcome (state_at (kept ++ b) first j)) call (state_at (kept ++ b) first j)) (due_same i kept a b later_a later_b j (omega arith))
 
--- nor a halt before both ends
-pub halts_same : (i : ℕ) (kept a b : List Entry) (first : State) → AreAfter i a → AreAfter i b → i < (end_of (kept ++ a)).step → i < (end_of (kept ++ b)).step → (j : ℕ) → j ≤ i
-    → halts_at (kept ++ a) j (state_at (kept ++ a) first j) ≡ halts_at (kept ++ b) j (state_at (kept ++ b) first j)
-halts_same i kept a b first later_a later_b end_a end_b j h =
-    ap (halts_at (kept ++ a) j) (states_same i kept a b first later_a later_b j (omega arith))
-    ∙ halts_before (kept ++ a) j (state_at (kept ++ b) first j) (omega arith)
-    ∙ ap (λ (call : Option Told). halts_by (outcome (state_at (kept ++ b) first j)) call j (state_at (kept ++ b) first j)) (due_same i kept a b later_a later_b j h)
-    ∙ sym (halts_before (kept ++ b) j (state_at (kept ++ b) first j) (omega arith))
+map_or : {A B : Type 0} (f : A → B) (a b : Option A) → option_map f (option_or a b) ≡ option_or (option_map f a) (option_map f b)
+map_or f None b = refl
+map_or f (Some a) b = refl
 
-pub first_halts_same : (i : ℕ) (kept a b : List Entry) (first : State) → AreAfter i a → AreAfter i b → i < (end_of (kept ++ a)).step → i < (end_of (kept ++ b)).step → (n : ℕ) → n ≤ i + 1
-    → first_halt (kept ++ a) first (below n) ≡ first_halt (kept ++ b) first (below n)
-first_halts_same i kept a b first later_a later_b end_a end_b zero h = refl
-first_halts_same i kept a b first later_a later_b end_a end_b (suc n) h =
-    first_halt_append (kept ++ a) first (below n) (n ∷ [])
-    ∙ ap (λ halt. option_or halt (first_halt (kept ++ a) first (n ∷ []))) (first_halts_same i kept a b first later_a later_b end_a end_b n (omega arith))
-    ∙ ap (λ halt. option_or (first_halt (kept ++ b) first (below n)) (option_or halt None)) (halts_same i kept a b first later_a later_b end_a end_b n (omega arith))
-    ∙ sym (first_halt_append (kept ++ b) first (below n) (n ∷ []))
+-- two ends differ in nothing but the last step that an early stop tells
+same_by : (e f : Ending) (happens : Outcome) (call : Option Told) (i : ℕ) (s : State)
+    → option_map without_last (departs_by e happens call i s) ≡ option_map without_last (departs_by f happens call i s)
+same_by e f (Next touched) call i s = refl
+same_by e f StandsAtCall call i s = refl
+same_by e f (Stop cause) None i s = refl
+same_by e f (Stop cause) (Some call) i s = refl
+
+-- nor a departure before both ends
+departs_same : (i : ℕ) (kept a b : List Entry) (first : State) → AreAfter i a → AreAfter i b → i < (end_of (kept ++ a)).step → i < (end_of (kept ++ b)).step → (j : ℕ) → j ≤ i
+    → option_map without_last (departs_at (kept ++ a) j (state_at (kept ++ a) first j)) ≡ option_map without_last (departs_at (kept ++ b) j (state_at (kept ++ b) first j))
+departs_same i kept a b first later_a later_b end_a end_b j h =
+    let s : State = state_at (kept ++ b) first j in
+    ap (λ (x : State). option_map without_last (departs_at (kept ++ a) j x)) (states_same i kept a b first later_a later_b j (omega arith))
+    ∙ ap (option_map without_last) (departs_before (kept ++ a) j s (omega arith))
+    ∙ ap (λ (call : Option Told). option_map without_last (departs_by (end_of (kept ++ a)) (outcome s) call j s)) (due_same i kept a b later_a later_b j h)
+    ∙ same_by (end_of (kept ++ a)) (end_of (kept ++ b)) (outcome s) (due (kept ++ b) j) j s
+    ∙ ap (option_map without_last) (sym (departs_before (kept ++ b) j s (omega arith)))
+
+-- the first departure up to a step more, without the log's last step
+first_more : (entries : List Entry) (first : State) (n : ℕ) → option_map without_last (first_departure entries first (below (suc n)))
+    ≡ option_or (option_map without_last (first_departure entries first (below n))) (option_map without_last (departs_at entries n (state_at entries first n)))
+first_more entries first n =
+    ap (option_map without_last) (first_departure_append entries first (below n) (n ∷ []))
+    ∙ map_or without_last (first_departure entries first (below n)) (first_departure entries first (n ∷ []))
+    ∙ ap (λ d. option_or (option_map without_last (first_departure entries first (below n))) (option_map without_last d)) (or_none (departs_at entries n (state_at entries first n)))
+
+pub first_departures_same : (i : ℕ) (kept a b : List Entry) (first : State) → AreAfter i a → AreAfter i b → i < (end_of (kept ++ a)).step → i < (end_of (kept ++ b)).step → (n : ℕ) → n ≤ i + 1
+    → option_map without_last (first_departure (kept ++ a) first (below n)) ≡ option_map without_last (first_departure (kept ++ b) first (below n))
+first_departures_same i kept a b first later_a later_b end_a end_b zero h = refl
+first_departures_same i kept a b first later_a later_b end_a end_b (suc n) h =
+    first_more (kept ++ a) first n
+    ∙ ap (λ d. option_or d (option_map without_last (departs_at (kept ++ a) n (state_at (kept ++ a) first n)))) (first_departures_same i kept a b first later_a later_b end_a end_b n (omega arith))
+    ∙ ap (λ d. option_or (option_map without_last (first_departure (kept ++ b) first (below n))) d) (departs_same i kept a b first later_a later_b end_a end_b n (omega arith))
+    ∙ sym (first_more (kept ++ b) first n)
 
 -- ---- what a replay reaches
 
 -- the place of a step
 abbrev pub at : List Entry → State → ℕ → Place
-at entries first n = record { entries = entries; first = first; step = n }
+at entries first n = record (beginning entries first) { step = n }
 
 or_both : {T : Type 0} (a b : Option T) → option_or a b ≡ None → (a ≡ None) × (b ≡ None)
 or_both None b e = (refl, e)
@@ -105,17 +131,17 @@ is_before : (before : Bool) (i end : ℕ) (made touched : Touched) → nat_lt i 
 is_before true i end made touched e is = ltb-true i end e
 is_before false i end made touched e is = absurd cc
 
--- a move that was made: nothing halts there, before the end
-goes_made : (place : Place) (halt : Option Halt) (touched : Touched) → goes_on place halt ≡ Ok touched → (halt ≡ None) × (place.step < (end_of place.entries).step)
+-- a move that was made: the run doesn't depart there, before the end
+goes_made : (place : Place) (found : Option Departure) (touched : Touched) → goes_on place found ≡ Ok touched → (found ≡ None) × (place.step < (end_of place.entries).step)
 goes_made place None touched e =
     (refl, is_before (nat_lt place.step (end_of place.entries).step) place.step (end_of place.entries).step (touched_by_step (outcome (here place))) touched refl e)
-goes_made place (Some halt) touched e = absurd cc
+goes_made place (Some departure) touched e = absurd cc
 
-verdict_made : (place : Place) (touched : Touched) → verdict_at place ≡ Ok touched → (halts_at place.entries place.step (here place) ≡ None) × (place.step < (end_of place.entries).step)
+verdict_made : (place : Place) (touched : Touched) → verdict_at place ≡ Ok touched → (departs_at place.entries place.step (here place) ≡ None) × (place.step < (end_of place.entries).step)
 unfolding verdict_at
-verdict_made place touched e = goes_made place (halts_at place.entries place.step (here place)) touched e
+verdict_made place touched e = goes_made place (departs_at place.entries place.step (here place)) touched e
 
-verdict_goes : (entries : List Entry) (first : State) (n : ℕ) → halts_at entries n (state_at entries first n) ≡ None → n < (end_of entries).step
+verdict_goes : (entries : List Entry) (first : State) (n : ℕ) → departs_at entries n (state_at entries first n) ≡ None → n < (end_of entries).step
     → verdict_at (at entries first n) ≡ Ok (touched_by_step (outcome (state_at entries first n)))
 unfolding verdict_at
 verdict_goes entries first n none before = ap (goes_on (at entries first n)) none ∙ goes_before (at entries first n) None before
@@ -123,14 +149,14 @@ verdict_goes entries first n none before = ap (goes_on (at entries first n)) non
 moved_on : (entries : List Entry) (first : State) (n : ℕ) (verdict : Result Touched Halt) (touched : Touched) → verdict ≡ Ok touched → moved (at entries first n) verdict ≡ at entries first (suc n)
 moved_on entries first n verdict touched e = let one : n + 1 ≡ suc n = omega arith in ap (moved (at entries first n)) e ∙ ap (at entries first) one
 
--- so many moves from the first step on reach the step of that number, where nothing halts before it and it is in the run
-pub reaches : (entries : List Entry) (first : State) (n : ℕ) → first_halt entries first (below n) ≡ None → n ≤ (end_of entries).step → place_after (at entries first 0) n ≡ at entries first n
+-- so many moves from the first step on reach the step of that number, where the run departs at no step before it and it is in the run
+pub reaches : (entries : List Entry) (first : State) (n : ℕ) → first_departure entries first (below n) ≡ None → n ≤ (end_of entries).step → place_after (at entries first 0) n ≡ at entries first n
 unfolding place_after
 reaches entries first zero none within = refl
 reaches entries first (suc n) none within =
-    let parts : (first_halt entries first (below n) ≡ None) × (option_or (halts_at entries n (state_at entries first n)) None ≡ None) =
-    or_both (first_halt entries first (below n)) (first_halt entries first (n ∷ [])) (sym (first_halt_append entries first (below n) (n ∷ [])) ∙ none) in
-    let here_none : halts_at entries n (state_at entries first n) ≡ None = sym (or_none (halts_at entries n (state_at entries first n))) ∙ parts.1 in
+    let parts : (first_departure entries first (below n) ≡ None) × (option_or (departs_at entries n (state_at entries first n)) None ≡ None) =
+    or_both (first_departure entries first (below n)) (first_departure entries first (n ∷ [])) (sym (first_departure_append entries first (below n) (n ∷ [])) ∙ none) in
+    let here_none : departs_at entries n (state_at entries first n) ≡ None = sym (or_none (departs_at entries n (state_at entries first n))) ∙ parts.1 in
     ap (λ (p : Place). moved p (verdict_at p)) (reaches entries first n parts.0 (omega arith))
     ∙ moved_on entries first n (verdict_at (at entries first n)) (touched_by_step (outcome (state_at entries first n))) (verdict_goes entries first n here_none (omega arith))
 
@@ -147,12 +173,12 @@ made_move : (place : Place) (verdict : Result Touched Halt) (n : ℕ) → place.
 made_move place (Ok touched) n h e = (touched, refl, omega (arith, e))
 made_move place (Err halt) n h e = absurd (omega (arith, e))
 
-pub reached : (entries : List Entry) (first : State) (n : ℕ) → (place_after (at entries first 0) n).step ≡ n → (first_halt entries first (below n) ≡ None) × (n ≤ (end_of entries).step)
+pub reached : (entries : List Entry) (first : State) (n : ℕ) → (place_after (at entries first 0) n).step ≡ n → (first_departure entries first (below n) ≡ None) × (n ≤ (end_of entries).step)
 unfolding place_after
 reached entries first zero e = (refl, omega arith)
 reached entries first (suc n) e =
     let made = made_move (place_after (at entries first 0) n) (verdict_at (place_after (at entries first 0) n)) n (after_at_most entries first n) e in
-    let before : (first_halt entries first (below n) ≡ None) × (n ≤ (end_of entries).step) = reached entries first n made.2 in
+    let before : (first_departure entries first (below n) ≡ None) × (n ≤ (end_of entries).step) = reached entries first n made.2 in
     let place : place_after (at entries first 0) n ≡ at entries first n = reaches entries first n before.0 before.1 in
-    let goes : (halts_at entries n (state_at entries first n) ≡ None) × (n < (end_of entries).step) = verdict_made (at entries first n) made.0 (sym (ap verdict_at place) ∙ made.1) in
-    (first_halt_append entries first (below n) (n ∷ []) ∙ ap (λ halt. option_or halt (option_or (halts_at entries n (state_at entries first n)) None)) before.0 ∙ ap (λ halt. option_or halt None) goes.0, omega (arith, goes.1))
+    let goes : (departs_at entries n (state_at entries first n) ≡ None) × (n < (end_of entries).step) = verdict_made (at entries first n) made.0 (sym (ap verdict_at place) ∙ made.1) in
+    (first_departure_append entries first (below n) (n ∷ []) ∙ ap (λ d. option_or d (option_or (departs_at entries n (state_at entries first n)) None)) before.0 ∙ ap (λ d. option_or d None) goes.0, omega (arith, goes.1))

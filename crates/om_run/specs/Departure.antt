@@ -1,19 +1,18 @@
 -- Where a run departs from its log: the rules, in the order in which they are judged at a step.
-use Rattle.std.specs.Prelude.{ℕ, zero, suc, ◌+◌, Bool, not, ◌&&◌, ◌||◌, nat_eq, nat_lt, if◌then◌else◌, List, [], ◌∷◌, slice_index, map, Option, Some, None}
+use Rattle.std.specs.Prelude.{ℕ, zero, suc, ◌+◌, Bool, false, not, ◌&&◌, ◌||◌, nat_eq, nat_lt, if◌then◌else◌, List, [], ◌∷◌, slice_index, map, Option, Some, None}
 use Rattle.std.specs.Option.{option_map, option_map_or, option_or}
 use Rattle.om_log.specs.declared.entry.Entry.{Entry}
 use Rattle.om_step.specs.State.{State, register}
-use Rattle.om_step.specs.Step.{outcome}
-use Rattle.om_step.specs.declared.machine.Outcome.{Outcome}
-use Rattle.om_step.specs.declared.machine.Outcome.TheVariants.{Next, Call as StandsAtCall, Unbuilt}
+use Rattle.om_step.specs.Step.{outcome, code_of}
+use Rattle.om_step.specs.declared.cause.Cause.{Cause}
+use Rattle.om_step.specs.declared.outcome.Outcome.{Outcome}
+use Rattle.om_step.specs.declared.outcome.Outcome.TheVariants.{Next, Call as StandsAtCall, Stop}
 use Rattle.om_run.specs.declared.told.Told.{Told}
 use Rattle.om_run.specs.declared.told.Ending.{Ending}
 use Rattle.om_run.specs.Run.{due, end_of, state_at, below}
 use Rattle.om_run.specs.declared.departure.Reason.{Reason}
-use Rattle.om_run.specs.declared.departure.Reason.TheVariants.{EndExit, EndValue, Call, Passed, Number, Argument}
+use Rattle.om_run.specs.declared.departure.Reason.TheVariants.{EndExit, EndValue, EndStop, Call, Passed, Number, Argument, Stopped}
 use Rattle.om_run.specs.declared.departure.Departure.{Departure}
-use Rattle.om_run.specs.declared.departure.Halt.{Halt}
-use Rattle.om_run.specs.declared.departure.Halt.TheVariants.{Departs, Unbuilt as NotBuilt}
 
 -- a rule that is broken: the number that the log has, and the one that the run has
 pub record Broken : Type 0 where
@@ -52,6 +51,23 @@ abbrev pub end_value : Ending → Option Told → Option Broken
 end_value end call =
     if nat_eq end.cause 0 && not (nat_eq (argument_of call) end.value) then broken end.value (argument_of call) else None
 
+-- the machine has a stop of that code
+abbrev pub stops_with : ℕ → Outcome → Bool
+stops_with code (Next touched) = false
+stops_with code StandsAtCall = false
+stops_with code (Stop cause) = nat_eq (code_of cause) code
+
+-- the code of the stop that the machine has, or 0 where it has none
+abbrev pub stop_code : Outcome → ℕ
+stop_code (Next touched) = 0
+stop_code StandsAtCall = 0
+stop_code (Stop cause) = code_of cause
+
+-- an end by a stop stands where the machine has that stop
+abbrev pub end_stop : Ending → Outcome → Option Broken
+end_stop end happens =
+    if nat_eq end.cause 2 && not (stops_with end.value happens) then broken end.value (stop_code happens) else None
+
 -- ---- a step before the last one
 
 -- the machine stands at a call, and the log tells none
@@ -63,6 +79,10 @@ no_call (Some call) s = None
 abbrev pub passed : Option Told → State → Option Broken
 passed None s = None
 passed (Some call) s = broken call.number s.pc
+
+-- the machine stops before the run ends
+abbrev pub stopped : Ending → Cause → Option Broken
+stopped end cause = broken end.step (code_of cause)
 
 -- the call that the log tells has another number
 abbrev pub other_number : Told → State → Option Broken
@@ -85,8 +105,10 @@ first_of [] = None
 first_of (d ∷ ds) = option_or d (first_of ds)
 
 -- the rules of the last step
-abbrev pub departs_at_end : Ending → Option Told → ℕ → Option Departure
-departs_at_end end call i = first_of (departs_for i EndExit (end_exit end call) ∷ departs_for i EndValue (end_value end call) ∷ [])
+abbrev pub departs_at_end : Ending → Option Told → Outcome → ℕ → Option Departure
+departs_at_end end call happens i =
+    first_of
+    (departs_for i EndExit (end_exit end call) ∷ departs_for i EndValue (end_value end call) ∷ departs_for i EndStop (end_stop end happens) ∷ [])
 
 -- a departure for an argument, where it is another one
 abbrev pub departs_for_argument : Told → ℕ → State → ℕ → Option Departure
@@ -98,24 +120,41 @@ departs_at_call None i s = departs_for i Call (no_call None s)
 departs_at_call (Some call) i s =
     option_or (departs_for i Number (other_number call s)) (first_of (map (departs_for_argument call i s) (0 ∷ 1 ∷ 2 ∷ 3 ∷ 4 ∷ 5 ∷ [])))
 
--- why the run stops at a step before the last one, by what happens there
-abbrev pub halts_by : Outcome → Option Told → ℕ → State → Option Halt
-halts_by Unbuilt call i s = Some NotBuilt
-halts_by StandsAtCall call i s = option_map Departs (departs_at_call call i s)
-halts_by (Next touched) call i s = option_map Departs (departs_for i Passed (passed call s))
+-- the rules of a step before the last one, by what happens there
+abbrev pub departs_by : Ending → Outcome → Option Told → ℕ → State → Option Departure
+departs_by end (Next touched) call i s = departs_for i Passed (passed call s)
+departs_by end StandsAtCall call i s = departs_at_call call i s
+departs_by end (Stop cause) call i s =
+    first_of (departs_for i Passed (passed call s) ∷ departs_for i Stopped (stopped end cause) ∷ [])
 
--- why the run stops at a step whose state is this one, if it does before its end
-abbrev pub halts_at : List Entry → ℕ → State → Option Halt
-halts_at entries i s =
+-- where the run departs from its log at a step whose state is this one, if it does
+abbrev pub departs_at : List Entry → ℕ → State → Option Departure
+departs_at entries i s =
     if nat_lt i (end_of entries).step
-    then halts_by (outcome s) (due entries i) i s
-    else option_map Departs (departs_at_end (end_of entries) (call_before entries (end_of entries).step) i)
+    then departs_by (end_of entries) (outcome s) (due entries i) i s
+    else departs_at_end (end_of entries) (call_before entries (end_of entries).step) (outcome s) i
 
--- the first of some steps at which the run stops, and why
-abbrev pub first_halt : List Entry → State → List ℕ → Option Halt
-first_halt entries first [] = None
-first_halt entries first (i ∷ is) = option_or (halts_at entries i (state_at entries first i)) (first_halt entries first is)
+-- the first of some steps at which the run departs
+abbrev pub first_departure : List Entry → State → List ℕ → Option Departure
+first_departure entries first [] = None
+first_departure entries first (i ∷ is) =
+    option_or (departs_at entries i (state_at entries first i)) (first_departure entries first is)
 
--- why the run stops before its end, at the least step at which it does: it departs from the log, or needs what isn't built
-unfoldable pub halt_of : List Entry → State → Option Halt
-halt_of entries first = first_halt entries first (below ((end_of entries).step + 1))
+-- the least step at which the run departs from its log, and how, if it does
+unfoldable pub departure_of : List Entry → State → Option Departure
+departure_of entries first = first_departure entries first (below ((end_of entries).step + 1))
+
+-- the number that a log has for a departure; where the machine stops early that is the log's last step, and left out
+abbrev pub told_apart : Reason → ℕ → ℕ
+told_apart EndExit told = told
+told_apart EndValue told = told
+told_apart EndStop told = told
+told_apart Call told = told
+told_apart Passed told = told
+told_apart Number told = told
+told_apart (Argument j) told = told
+told_apart Stopped told = 0
+
+-- a departure without the log's last step
+abbrev pub without_last : Departure → Departure
+without_last d = record d { told = told_apart d.reason d.told }

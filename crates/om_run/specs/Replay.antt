@@ -1,22 +1,25 @@
 -- A place in a run, and what one move of a replay does there.
-use Rattle.std.specs.Prelude.{ℕ, zero, suc, ◌+◌, nat_lt, if◌then◌else◌, List, Option, Some, None, Result, Ok, Err}
+use Rattle.std.specs.Prelude.{◌≡◌, ℕ, zero, suc, ◌+◌, false, nat_lt, if◌then◌else◌, List, Option, Some, None, Result, Ok, Err}
 use Rattle.om_log.specs.declared.entry.Entry.{Entry}
-use Rattle.om_step.specs.State.{State}
+use Rattle.om_mem.specs.Pages.{flag, page_in}
+use Rattle.om_step.specs.State.{State, Standing}
 use Rattle.om_step.specs.Step.{outcome}
-use Rattle.om_step.specs.declared.machine.Outcome.{Outcome}
-use Rattle.om_step.specs.declared.machine.Outcome.TheVariants.{Next, Call, Unbuilt}
-use Rattle.om_step.specs.declared.machine.Touched.{Touched}
-use Rattle.om_step.specs.declared.machine.Touched.TheVariants.{Nothing, Call as TouchedCall}
+use Rattle.om_step.specs.declared.outcome.Outcome.{Outcome}
+use Rattle.om_step.specs.declared.outcome.Outcome.TheVariants.{Next, Call, Stop}
+use Rattle.om_step.specs.declared.outcome.Touched.{Touched}
+use Rattle.om_step.specs.declared.outcome.Touched.TheVariants.{Nothing, Call as TouchedCall}
 use Rattle.om_run.specs.Run.{end_of, state_at}
-use Rattle.om_run.specs.Departure.{halts_at}
+use Rattle.om_run.specs.Departure.{departs_at}
+use Rattle.om_run.specs.declared.departure.Departure.{Departure}
 use Rattle.om_run.specs.declared.departure.Halt.{Halt}
-use Rattle.om_run.specs.declared.departure.Halt.TheVariants.{Ended}
+use Rattle.om_run.specs.declared.departure.Halt.TheVariants.{Ended, Departs}
 
--- the log's entries, the first state of the run, and the step at which the replay stands
+-- the log's entries, the first state of the run, the step at which the replay stands, and the one at which it last counted every page as unwritten
 pub record Place : Type 0 where
   pub entries : List Entry
   pub first : State
   pub step : ℕ
+  pub cleared : ℕ
 
 -- the state at a place
 abbrev pub here : Place → State
@@ -26,16 +29,16 @@ here place = state_at place.entries place.first place.step
 abbrev pub touched_by_step : Outcome → Touched
 touched_by_step (Next touched) = touched
 touched_by_step Call = TouchedCall
-touched_by_step Unbuilt = Nothing
+touched_by_step (Stop cause) = Nothing
 
--- what a move answers where the run doesn't stop: what the step touches, or that it ended
-abbrev pub goes_on : Place → Option Halt → Result Touched Halt
-goes_on place (Some halt) = Err halt
+-- what a move answers, by where the run departs at the step: what the step touches, or that it ended
+abbrev pub goes_on : Place → Option Departure → Result Touched Halt
+goes_on place (Some departure) = Err (Departs departure)
 goes_on place None = if nat_lt place.step (end_of place.entries).step then Ok (touched_by_step (outcome (here place))) else Err Ended
 
 -- what a move answers at a place
 unfoldable pub verdict_at : Place → Result Touched Halt
-verdict_at place = goes_on place (halts_at place.entries place.step (here place))
+verdict_at place = goes_on place (departs_at place.entries place.step (here place))
 
 -- the place after a move: one step on where it made one
 abbrev pub moved : Place → Result Touched Halt → Place
@@ -46,3 +49,17 @@ moved place (Err halt) = place
 unfoldable pub place_after : Place → ℕ → Place
 place_after place zero = place
 place_after place (suc n) = moved (place_after place n) (verdict_at (place_after place n))
+
+-- the place at a step, with every page counted as unwritten there
+abbrev pub placed_at : Place → ℕ → Place
+placed_at place step = record place { step = step; cleared = step }
+
+-- of a machine at a place: a page that doesn't count as written is as it was when all were last counted so
+abbrev pub IsKeptSince : Place → Standing → Type 0
+IsKeptSince place machine =
+    (page : ℕ) → flag machine.dirty page ≡ false
+    → page_in machine.state.memory page ≡ page_in (state_at place.entries place.first place.cleared).memory page
+
+-- the place where a run begins
+abbrev pub beginning : List Entry → State → Place
+beginning entries first = record { entries = entries; first = first; step = 0; cleared = 0 }

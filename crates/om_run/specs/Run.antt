@@ -8,8 +8,8 @@ use Rattle.om_run.specs.declared.told.Told.{Told}
 use Rattle.om_run.specs.declared.told.Ending.{Ending}
 use Rattle.om_step.specs.State.{State}
 use Rattle.om_step.specs.Step.{outcome, next, answered}
-use Rattle.om_step.specs.declared.machine.Outcome.{Outcome}
-use Rattle.om_step.specs.declared.machine.Outcome.TheVariants.{Next, Call as StandsAtCall, Unbuilt}
+use Rattle.om_step.specs.declared.outcome.Outcome.{Outcome}
+use Rattle.om_step.specs.declared.outcome.Outcome.TheVariants.{Next, Call as StandsAtCall, Stop}
 
 -- the call that a log tells for a step, if it tells one
 abbrev pub due : List Entry → ℕ → Option Told
@@ -30,7 +30,7 @@ end_of (Mark step pc sum ∷ entries) = end_of entries
 abbrev pub after_by : Outcome → Option Told → State → State
 after_by (Next touched) told s = next s
 after_by StandsAtCall told s = answered s (option_map_or (λ call. call.result) told 0)
-after_by Unbuilt told s = s
+after_by (Stop cause) told s = s
 
 abbrev pub after_step : List Entry → ℕ → State → State
 after_step entries i s = after_by (outcome s) (due entries i) s

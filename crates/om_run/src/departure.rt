@@ -7,6 +7,8 @@ pub enum Reason {
     EndExit,
     /// The exit's value isn't the call's first argument.
     EndValue,
+    /// The log ends by a stop that the machine doesn't have.
+    EndStop,
     /// The machine stands at a call, and the log tells none.
     Call,
     /// The log tells a call, and the machine stands at none.
@@ -15,6 +17,8 @@ pub enum Reason {
     Number,
     /// This argument of the call is another one, from 0 to 5.
     Argument(u8),
+    /// The machine stops before the run ends.
+    Stopped,
 }
 
 /// The first step at which a run and its log depart.
@@ -37,6 +41,4 @@ pub enum Halt {
     Ended,
     /// The run departs from its log.
     Departs(Departure),
-    /// The machine stops here, or its next instruction isn't built.
-    Unbuilt,
 }

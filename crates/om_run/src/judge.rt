@@ -1,9 +1,15 @@
 //! One step of a replay, judged by the rules in their order.
 
-ghost use Rattle.std.specs.Prelude.{◌≡◌, ◌+◌, ◌-◌, ◌^◌, ◌<◌, ◌∷◌, [], Some, None, is_ok, if◌then◌else◌, map};
+ghost use Rattle.std.specs.Prelude.{◌≡◌, ◌+◌, ◌-◌, ◌^◌, ◌<◌, ◌∷◌, [], Some, None, Option, is_ok, OnErr, if◌then◌else◌, map};
 ghost use Rattle.om_step.specs.Step.{outcome};
-ghost use Rattle.om_run.specs.Departure.{is_exit as exits, call_before, departs_at_call, departs_at_end, departs_for_argument, first_of, halts_by};
+ghost use Rattle.om_mem.specs.Pages.{IsKept};
+ghost use Rattle.om_step.specs.State.{held_of};
+ghost use Rattle.om_run.specs.Departure.{is_exit as exits, call_before, departs_at_call, departs_at_end, departs_by, departs_for_argument, end_stop, end_value, end_exit, first_of};
+ghost use Rattle.om_run.specs.Departure.{stop_code, stops_with};
 ghost use Rattle.om_run.specs.Walk.{end_halt, step_leaves, step_verdict};
+ghost use Rattle.om_run.specs.declared.told.Told.{Told};
+ghost use Rattle.om_run.specs.declared.told.Ending.{Ending};
+ghost use Rattle.om_step.specs.declared.outcome.Outcome.{Outcome};
 
 use crate::departure::{Departure, Halt, Reason};
 use crate::told::{Ending, Told, find_call_before};
@@ -26,37 +32,60 @@ fn is_exit(number: u32) -> bool
     number == 93 || number == 94
 }
 
-/// Where the end of a run departs from its log; `call` is the call of the step before.
-fn judge_end(end: Ending, call: Option<Told>, step: u64) -> Option<Departure>
-    ensures { result ≡ departs_at_end end call step }
+/// A rule that is broken: the number that the log has, and the one that the run has.
+fn broken(step: u64, reason: Reason, told: u32, found: u32) -> Departure
+    ensures { result ≡ record { step = step; reason = reason; told = told; found = found } }
 {
-    if end.cause != 0 {
-        return None;
+    Departure {
+        step,
+        reason,
+        told: u64::from(told),
+        found: u64::from(found),
     }
+}
+
+/// Where an end by exit departs; `call` is the call of the step before.
+fn judge_exit(value: u32, call: Option<Told>, step: u64) -> Option<Departure>
+    ensures { (end : Ending) → end.cause ≡ 0 → end.value ≡ value → (happens : Outcome)
+        → result ≡ departs_at_end end call happens step }
+{
     let (number, first) = match call {
         Some(call) => (call.number, call.arguments[0]),
         None => (0, 0),
     };
-    let (reason, found) = if !is_exit(number) {
-        (Reason::EndExit, number)
-    } else if first != end.value {
-        (Reason::EndValue, first)
-    } else {
-        return None;
-    };
-    Some(Departure {
-        step,
-        reason,
-        told: u64::from(end.value),
-        found: u64::from(found),
-    })
+    if !is_exit(number) {
+        return Some(broken(step, Reason::EndExit, value, number));
+    }
+    if first != value {
+        return Some(broken(step, Reason::EndValue, value, first));
+    }
+    None
 }
 
-/// Why the run stops at its last step. It searches the entries for the call of the step before.
-pub(crate) fn halt_at_end(entries: &[Entry<'_>], end: Ending, step: u64) -> Halt
-    ensures { result ≡ end_halt (departs_at_end end (call_before entries.now end.step) step) }
+/// Where an end by a stop departs.
+fn judge_stop(value: u32, happens: Outcome, step: u64) -> Option<Departure>
+    ensures { (end : Ending) → end.cause ≡ 2 → end.value ≡ value → (call : Option Told)
+        → result ≡ departs_at_end end call happens step }
 {
-    match judge_end(end, find_call_before(entries, end.step), step) {
+    let Outcome::Stop(cause) = happens else {
+        return Some(broken(step, Reason::EndStop, value, 0));
+    };
+    if cause.code() == value {
+        return None;
+    }
+    Some(broken(step, Reason::EndStop, value, cause.code()))
+}
+
+/// Why the run stops at its last step. Of an exit it searches the entries for the call of the step before.
+pub(crate) fn halt_at_end(entries: &[Entry<'_>], machine: &Machine, end: Ending, step: u64) -> Halt
+    ensures { result ≡ end_halt (departs_at_end end (call_before entries.now end.step) (outcome machine.now.state) step) }
+{
+    let departure = match end.cause {
+        0 => judge_exit(end.value, find_call_before(entries, end.step), step),
+        2 => judge_stop(end.value, machine.look(), step),
+        _ => None,
+    };
+    match departure {
         Some(departure) => Halt::Departs(departure),
         None => Halt::Ended,
     }
@@ -64,61 +93,60 @@ pub(crate) fn halt_at_end(entries: &[Entry<'_>], end: Ending, step: u64) -> Halt
 
 /// Where a call departs from the one that the log tells.
 fn judge_call(machine: &Machine, call: &Told, step: u64) -> Option<Departure>
-    ensures { result ≡ departs_at_call (Some call.now) step machine.now }
+    ensures { result ≡ departs_at_call (Some call.now) step machine.now.state }
 {
     let number = machine.reg(CALL_NUMBER);
     if call.number != number {
-        return Some(Departure {
-            step,
-            reason: Reason::Number,
-            told: u64::from(call.number),
-            found: u64::from(number),
-        });
+        return Some(broken(step, Reason::Number, call.number, number));
     }
     judge_arguments(machine, call, step)
 }
 
 /// Where the first argument departs that is another one.
 fn judge_arguments(machine: &Machine, call: &Told, step: u64) -> Option<Departure>
-    ensures { result ≡ first_of (map (departs_for_argument call.now step machine.now)
+    ensures { result ≡ first_of (map (departs_for_argument call.now step machine.now.state)
         (0 ∷ 1 ∷ 2 ∷ 3 ∷ 4 ∷ 5 ∷ [])) }
 {
     for j in ARGUMENTS {
         let told = call.arguments[j as usize];
         let found = machine.reg(ARGUMENT_0 + j);
         if told != found {
-            return Some(Departure {
-                step,
-                reason: Reason::Argument(j),
-                told: u64::from(told),
-                found: u64::from(found),
-            });
+            return Some(broken(step, Reason::Argument(j), told, found));
         }
     }
     None
 }
 
-/// A step at which the log tells no call.
-fn step_without_call(
+/// A step at which the log tells no call; `last` is the run's last step.
+#[inline(always)] // since nearly all steps are such
+pub(crate) fn step_without_call(
     machine: &mut Machine,
+    last: u64,
     step: u64,
     meter: &mut StepMeter,
 ) -> Result<Touched, Halt>
     requires { meter.old < 2 ^ 64 - 1 }
-    ensures verdict { result
-        ≡ step_verdict (halts_by (outcome machine.old) None step machine.old) (outcome machine.old) }
-    ensures machine { machine.new ≡ step_leaves result (outcome machine.old) None machine.old }
+    ensures verdict { (end : Ending) → end.step ≡ last → result
+        ≡ step_verdict (departs_by end (outcome machine.old.state) None step machine.old.state) (outcome machine.old.state) }
+    ensures machine { machine.new.state ≡ step_leaves result (outcome machine.old.state) None machine.old.state }
     ensures meter { meter.new ≡ meter.old + (if is_ok result then 1 else 0) }
+    ensures same { OnErr result (machine.new ≡ machine.old) }
+    ensures kept { IsKept (held_of machine.old) (held_of machine.new) }
 {
     match machine.step(meter) {
         Outcome::Next(touched) => Ok(touched),
-        Outcome::Call => Err(Halt::Departs(Departure {
+        Outcome::Call => Err(Halt::Departs(broken(
             step,
-            reason: Reason::Call,
-            told: 0,
-            found: u64::from(machine.reg(CALL_NUMBER)),
+            Reason::Call,
+            0,
+            machine.reg(CALL_NUMBER),
+        ))),
+        Outcome::Stop(cause) => Err(Halt::Departs(Departure {
+            step,
+            reason: Reason::Stopped,
+            told: last,
+            found: u64::from(cause.code()),
         })),
-        Outcome::Unbuilt => Err(Halt::Unbuilt),
     }
 }
 
@@ -130,11 +158,13 @@ fn step_with_call(
     meter: &mut StepMeter,
 ) -> Result<Touched, Halt>
     requires { meter.old < 2 ^ 64 - 1 }
-    ensures verdict { result
-        ≡ step_verdict (halts_by (outcome machine.old) (Some call.now) step machine.old) (outcome machine.old) }
-    ensures machine { machine.new
-        ≡ step_leaves result (outcome machine.old) (Some call.now) machine.old }
+    ensures verdict { (end : Ending) → result
+        ≡ step_verdict (departs_by end (outcome machine.old.state) (Some call.now) step machine.old.state) (outcome machine.old.state) }
+    ensures machine { machine.new.state
+        ≡ step_leaves result (outcome machine.old.state) (Some call.now) machine.old.state }
     ensures meter { meter.new ≡ meter.old + (if is_ok result then 1 else 0) }
+    ensures same { OnErr result (machine.new ≡ machine.old) }
+    ensures kept { IsKept (held_of machine.old) (held_of machine.new) }
 {
     match machine.look() {
         Outcome::Call => {
@@ -143,31 +173,33 @@ fn step_with_call(
             }
             Ok(machine.answer_call(call.result, meter))
         }
-        Outcome::Next(_) => Err(Halt::Departs(Departure {
+        Outcome::Next(_) | Outcome::Stop(_) => Err(Halt::Departs(broken(
             step,
-            reason: Reason::Passed,
-            told: u64::from(call.number),
-            found: u64::from(machine.pc()),
-        })),
-        Outcome::Unbuilt => Err(Halt::Unbuilt),
+            Reason::Passed,
+            call.number,
+            machine.pc(),
+        ))),
     }
 }
 
-/// A step before the last one; `call` is the one that the log tells for it.
+/// A step before the last one; `call` is the one that the log tells for it, and `last` the run's last step.
 pub(crate) fn step_by(
     machine: &mut Machine,
     call: Option<Told>,
+    last: u64,
     step: u64,
     meter: &mut StepMeter,
 ) -> Result<Touched, Halt>
     requires { meter.old < 2 ^ 64 - 1 }
-    ensures verdict { result
-        ≡ step_verdict (halts_by (outcome machine.old) call step machine.old) (outcome machine.old) }
-    ensures machine { machine.new ≡ step_leaves result (outcome machine.old) call machine.old }
+    ensures verdict { (end : Ending) → end.step ≡ last → result
+        ≡ step_verdict (departs_by end (outcome machine.old.state) call step machine.old.state) (outcome machine.old.state) }
+    ensures machine { machine.new.state ≡ step_leaves result (outcome machine.old.state) call machine.old.state }
     ensures meter { meter.new ≡ meter.old + (if is_ok result then 1 else 0) }
+    ensures same { OnErr result (machine.new ≡ machine.old) }
+    ensures kept { IsKept (held_of machine.old) (held_of machine.new) }
 {
     match call {
         Some(call) => step_with_call(machine, &call, step, meter),
-        None => step_without_call(machine, step, meter),
+        None => step_without_call(machine, last, step, meter),
     }
 }

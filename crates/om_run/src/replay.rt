@@ -1,22 +1,23 @@
 //! A replay: a run made again, step by step along its log.
 
-ghost use Rattle.std.specs.Prelude.{◌≡◌, ◌+◌, ◌-◌, ◌^◌, ◌<◌, ◌≤◌, is_ok, if◌then◌else◌, length, drop};
+ghost use Rattle.std.specs.Prelude.{◌≡◌, ◌+◌, ◌-◌, ◌^◌, ◌<◌, ◌≤◌, is_ok, if◌then◌else◌, length, drop, slice_index};
 ghost use Rattle.om_elf.specs.Image.{AreLoadable};
 ghost use Rattle.om_log.specs.Gate.{AreBuilt};
 ghost use Rattle.om_log.specs.Grammar.{IsLawfulLog};
-ghost use Rattle.om_step.specs.Contents.{overlap_of};
+ghost use Rattle.om_mem.specs.Contents.{overlap_of};
 ghost use Rattle.om_step.specs.First.{first_state, regions_of};
-ghost use Rattle.om_step.specs.Gives.{Gives};
-ghost use Rattle.om_run.specs.Replay.{here, moved, verdict_at};
-ghost use Rattle.om_run.specs.Run.{end_of};
-ghost use Rattle.om_run.specs.Walk.{behind, due_first};
+ghost use Rattle.om_mem.specs.Gives.{Gives};
+ghost use Rattle.om_step.specs.Back.{HaveLengths, IsBack, IsClean};
+ghost use Rattle.om_run.specs.Replay.{IsKeptSince, beginning, here, moved, placed_at, verdict_at};
+ghost use Rattle.om_run.specs.Run.{end_of, state_at};
+ghost use Rattle.om_run.specs.Walk.{behind, due_first, end_of_quiet};
 
 use crate::departure::Halt;
-use crate::judge::{halt_at_end, step_by};
-use crate::told::{Ending, Told, find_end, told_by};
+use crate::judge::{halt_at_end, step_by, step_without_call};
+use crate::told::{Ending, Told, find_end, skip_to, told_by};
 use om_elf::Elf;
 use om_log::{Entry, Log};
-use om_step::{Machine, MapFault, StepMeter, Touched};
+use om_step::{Core, Machine, MapFault, Pages, StepMeter, Touched};
 use std::alloc::Global;
 use std::marker::Model;
 
@@ -27,19 +28,24 @@ pub struct Replay<'a> {
     log: &'a Log<'a>,
     machine: Machine,
     step: u64,
+    /// The step at which every page last counted as unwritten.
+    cleared: u64,
     /// The entries that aren't behind it.
     rest: &'a [Entry<'a>],
     end: Ending,
+    /// Before this step the log tells neither a call nor the end: one test at each step.
+    quiet_until: u64,
 }
 
 // Clauses see the run and the step. The invariant is that the machine is in the state of the step, and that
-// the rest of the entries tells all calls that are due from there on.
+// the rest of the entries tells all calls that are due from there on; and that it knows how far it is quiet.
 impl<'a> Model for Replay<'a> {
+    ghost use Rattle.std.specs.Prelude.{◌≡◌};
     ghost use Rattle.std.specs.Coded.{codes};
     ghost use Rattle.om_step.specs.First.{first_state};
     ghost use Rattle.om_step.specs.State.{state_code};
     ghost use Rattle.om_run.specs.Replay.{Place};
-    ghost use Rattle.om_run.specs.Walk.{IsPlaced};
+    ghost use Rattle.om_run.specs.Walk.{IsPlaced, end_of_quiet};
 
     ghost Value = { Place };
 
@@ -49,10 +55,18 @@ impl<'a> Model for Replay<'a> {
       entries = it.log.now.entries;
       first = first_state it.elf.now it.log.now.start;
       step = it.step;
+      cleared = it.cleared;
     } };
 
-    ghost invariant = { λ it. IsPlaced it.log.now.entries (first_state it.elf.now it.log.now.start)
-        it.machine it.step it.rest.now it.end };
+    ghost invariant = { λ it. IsPlaced
+        (record {
+          entries = it.log.now.entries;
+          first = first_state it.elf.now it.log.now.start;
+          step = it.step;
+          cleared = it.cleared;
+        })
+        it.machine it.rest.now it.end
+        × (it.quiet_until ≡ end_of_quiet it.rest.now it.end.step) };
 }
 
 /// The call that the entries begin with, if it is one of this step, and how many entries tell it.
@@ -70,6 +84,16 @@ fn first_call(entries: &[Entry<'_>], at: u64) -> (Option<Told>, usize)
     }
 }
 
+/// The step of the call that the entries begin with, or the last step if that is earlier.
+fn find_quiet(entries: &[Entry<'_>], last: u64) -> u64
+    ensures { result ≡ end_of_quiet entries.now last }
+{
+    match entries.first() {
+        Some(Entry::Call { step, .. }) => (*step).min(last),
+        _ => last,
+    }
+}
+
 impl<'a> Replay<'a> {
     /// The run at its first step. It takes all memory that the run needs.
     ///
@@ -79,36 +103,61 @@ impl<'a> Replay<'a> {
         requires log { IsLawfulLog log.now }
         requires built { AreBuilt log.now.entries }
         ensures { Gives (overlap_of (regions_of elf.now.segments log.now.start))
-            (record { entries = log.now.entries; first = first_state elf.now log.now.start; step = 0 })
+            (beginning log.now.entries (first_state elf.now log.now.start))
             result }
     {
         let machine = Machine::load(alloc, elf, log.start)?;
         let rest = log.entries.as_slice();
+        let end = find_end(rest);
         Ok(Replay {
             elf,
             log,
             machine,
             step: 0,
+            cleared: 0,
             rest,
-            end: find_end(rest),
+            end,
+            quiet_until: find_quiet(rest, end.step),
         })
     }
 
     /// One step, judged by the log. At an error nothing changes.
     ///
-    /// Errors: `Ended` at the last step; `Departs` and `Unbuilt` where the run goes no further.
+    /// Errors: `Ended` at the last step; `Departs` where the run departs from its log.
     pub fn advance(&mut self, meter: &mut StepMeter) -> Result<Touched, Halt>
         requires { meter.old < 2 ^ 64 - 1 }
         ensures verdict { result ≡ verdict_at self.old }
         ensures position { self.new ≡ moved self.old result }
         ensures meter { meter.new ≡ meter.old + (if is_ok result then 1 else 0) }
     {
+        if self.step < self.quiet_until {
+            let touched = step_without_call(&mut self.machine, self.end.step, self.step, meter)?;
+            self.step += 1;
+            return Ok(touched);
+        }
+        self.advance_by_entry(meter)
+    }
+
+    /// One step at which the log tells a call or the end, or may do so.
+    #[cold]
+    fn advance_by_entry(&mut self, meter: &mut StepMeter) -> Result<Touched, Halt>
+        requires { meter.old < 2 ^ 64 - 1 }
+        ensures verdict { result ≡ verdict_at self.old }
+        ensures position { self.new ≡ moved self.old result }
+        ensures meter { meter.new ≡ meter.old + (if is_ok result then 1 else 0) }
+    {
         if self.step >= self.end.step {
-            return Err(halt_at_end(self.log.entries.as_slice(), self.end, self.step));
+            return Err(halt_at_end(
+                self.log.entries.as_slice(),
+                &self.machine,
+                self.end,
+                self.step,
+            ));
         }
         let (call, passed) = first_call(self.rest, self.step);
-        let touched = step_by(&mut self.machine, call, self.step, meter)?;
+        let touched = step_by(&mut self.machine, call, self.end.step, self.step, meter)?;
         self.rest = &self.rest[passed..];
+        self.quiet_until = find_quiet(self.rest, self.end.step);
         self.step += 1;
         Ok(touched)
     }
@@ -130,8 +179,35 @@ impl<'a> Replay<'a> {
 
     /// The machine in the state of the step.
     pub fn machine(&self) -> &Machine
-        ensures { result.now ≡ here self.now }
+        ensures state { result.now.state ≡ here self.now }
+        ensures kept { IsKeptSince self.now result.now }
+        ensures clean { self.now.step ≡ self.now.cleared → IsClean result.now }
     {
         &self.machine
+    }
+
+    /// From here on no page counts as written.
+    pub fn clear_dirty(&mut self)
+        ensures { self.new ≡ placed_at self.old self.old.step }
+    {
+        self.machine.clear_dirty();
+        self.cleared = self.step;
+    }
+
+    /// The replay goes to another step, whose registers and pages are lent: each page that differs from the
+    /// one that stands there now, at least. Then no page counts as written.
+    pub fn jump<P: Pages>(&mut self, step: u64, core: &Core, pages: &P)
+        requires within { step ≤ (end_of self.old.entries).step }
+        requires zero { slice_index core.now.regs 0 ≡ 0 }
+        requires lengths { HaveLengths (here self.old).memory.regions (P.bytes_at pages.now) }
+        requires back { IsBack (here self.old) core.now (P.bytes_at pages.now)
+            (state_at self.old.entries self.old.first step) }
+        ensures { self.new ≡ placed_at self.old step }
+    {
+        self.machine.put_back(core, pages);
+        self.rest = skip_to(self.log.entries.as_slice(), step);
+        self.quiet_until = find_quiet(self.rest, self.end.step);
+        self.step = step;
+        self.cleared = step;
     }
 }

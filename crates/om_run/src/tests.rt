@@ -1,4 +1,4 @@
-//! A run of the instructions that are built, made again from logs that tell it rightly and wrongly.
+//! A run made again from logs that tell it rightly and wrongly.
 
 ghost use Rattle.om_elf.specs.Image.{AreLoadable};
 ghost use Rattle.om_log.specs.Gate.{AreBuilt};
@@ -7,7 +7,7 @@ ghost use Rattle.om_log.specs.Grammar.{IsLawfulLog};
 use crate::{Departure, Halt, Reason, Replay};
 use om_elf::{Elf, read_elf};
 use om_log::{Log, read_log};
-use om_step::{MapFault, StepMeter};
+use om_step::{MapFault, Pages, StepMeter};
 use std::alloc::Global;
 use std::test::Fail;
 
@@ -68,6 +68,9 @@ fn a_run_ends_or_departs(rt: HostRuntime) -> Result<(), Fail> {
         (29, 94, 8, departs(8, Reason::Number, 94, 93)),
         (33, 7, 8, departs(8, Reason::Argument(0), 7, 0)),
         (75, 5, 9, departs(9, Reason::EndValue, 5, 0)),
+        (74, 2, 9, departs(9, Reason::EndStop, 0, 1)),
+        (21, 0, 0, departs(0, Reason::Passed, 93, 0x1_0000)),
+        (66, 12, 9, departs(9, Reason::Stopped, 12, 1)),
     ];
     for (at, byte, step, halt) in rows {
         let mut bytes = LOG;
@@ -77,5 +80,52 @@ fn a_run_ends_or_departs(rt: HostRuntime) -> Result<(), Fail> {
         let answer = replayed(rt.alloc(), &elf, &log)?;
         assert_eq!(rt; answer, (step, Some(halt), step));
     }
+    Ok(())
+}
+
+/// No bytes for any page.
+struct NoPages;
+
+impl Pages for NoPages {
+    ghost use Rattle.std.specs.Prelude.{None};
+
+    ghost bytes_at = { λ pages page. None };
+
+    fn page(&self, _page: u32) -> Option<&[u8]> {
+        None
+    }
+}
+
+/// A jump to the step at which the replay stands, and how many pages its memory has.
+fn jump_here(replay: &mut Replay<'_>) -> u32 {
+    let step = replay.position();
+    let core = replay.machine().registers();
+    let pages = replay.machine().memory().pages();
+    replay.jump(step, &core, &NoPages);
+    pages
+}
+
+/// The replay of the program with jumps before and after it: how many pages there are, where it halts, and
+/// how many steps were made before and after the second jump.
+fn jumping(alloc: Global, elf: &Elf<'_>, log: &Log<'_>) -> Result<(u32, u64, u64, u64), MapFault>
+    requires loadable { AreLoadable elf.now.segments }
+    requires log { IsLawfulLog log.now }
+    requires built { AreBuilt log.now.entries }
+{
+    let mut replay = Replay::start(alloc, elf, log)?;
+    let pages = jump_here(&mut replay);
+    let (position, _, steps) = halted(&mut replay);
+    jump_here(&mut replay);
+    replay.clear_dirty();
+    let (_, _, more) = halted(&mut replay);
+    Ok((pages, position, steps, more))
+}
+
+#[test]
+fn a_replay_jumps(rt: HostRuntime) -> Result<(), Fail> {
+    let elf = read_elf(rt.alloc(), &PROGRAM)?;
+    let log = read_log(rt.alloc(), &LOG)?;
+    let answer = jumping(rt.alloc(), &elf, &log)?;
+    assert_eq!(rt; answer, (513, 9, 9, 0));
     Ok(())
 }

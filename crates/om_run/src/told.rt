@@ -1,8 +1,10 @@
 //! What a log tells of a run: its calls and its end.
 
-ghost use Rattle.std.specs.Prelude.{◌≡◌, ◌∷◌, []};
+ghost use Rattle.std.specs.Prelude.{◌≡◌, ◌∷◌, [], List, if◌then◌else◌};
 ghost use Rattle.om_run.specs.Run.{due, end_of};
 ghost use Rattle.om_run.specs.Departure.{call_before};
+ghost use Rattle.om_run.specs.Walk.{from_step};
+ghost use Rattle.om_log.specs.declared.entry.Entry.{Entry};
 
 use om_log::Entry;
 
@@ -93,4 +95,29 @@ pub(crate) fn find_call_before(entries: &[Entry<'_>], at: u64) -> Option<Told>
         return None;
     }
     find_call(entries, at - 1)
+}
+
+/// The entries from a step on: without the calls of earlier steps that they begin with.
+pub(crate) fn skip_to<'a, 'b>(entries: &'a [Entry<'b>], step: u64) -> &'a [Entry<'b>]
+    ensures { result.now ≡ from_step step entries.now }
+{
+    let mut skipped = 0;
+    for entry in entries {
+        if !is_call_before(entry, step) {
+            return &entries[skipped..];
+        }
+        skipped += 1;
+    }
+    &entries[skipped..]
+}
+
+/// Whether an entry is a call of an earlier step.
+fn is_call_before(entry: &Entry<'_>, at: u64) -> bool
+    ensures { (others : List Entry) → from_step at (entry.now ∷ others)
+        ≡ (if result then from_step at others else entry.now ∷ others) }
+{
+    match entry {
+        Entry::Call { step, .. } => *step < at,
+        Entry::Mark { .. } | Entry::End { .. } => false,
+    }
 }

@@ -1,2 +1,3 @@
-pub mod LaidLemmas
 pub mod FirstLemmas
+pub mod FrameLemmas
+pub mod BackLemmas

@@ -1,21 +1,19 @@
 -- The first state of a run.
 use Rattle.std.specs.Prelude.{◌≡◌, ℕ, ◌+◌, ◌-◌, ◌%◌, ◌^◌, ◌≤◌, ◌<◌, false, nat_lt, List, [], ◌∷◌, ◌++◌, length, map, filter, replicate, slice_set}
-use Rattle.om_step.specs.Contents.{Filled, contents_of}
-use Rattle.om_step.specs.State.{State}
-use Rattle.om_step.specs.declared.region.Region.{Region}
+use Rattle.om_mem.specs.Contents.{Filled, contents_of, zeros}
+use Rattle.om_mem.specs.Pages.{page_count}
+use Rattle.om_mem.specs.declared.region.Region.{Region}
+use Rattle.om_step.specs.State.{State, Standing}
 use Rattle.om_log.specs.declared.start.Start.{Start}
 use Rattle.om_elf.specs.Image.{Image}
 use Rattle.om_elf.specs.declared.elf.Elf.{Elf}
 
--- a region that can be written and read, and holds zeros at first
-abbrev pub zeros : (low size : ℕ) → Filled
-zeros low size = record { region = record { low = low; size = size; rights = 6 }; bytes = replicate size 0 }
-
+-- stack and heap can be written and read, and hold zeros at first
 abbrev pub stack_of : Start → Filled
-stack_of start = zeros start.stack_low start.stack_size
+stack_of start = zeros (record { low = start.stack_low; size = start.stack_size; rights = 6 })
 
 abbrev pub heap_of : Start → Filled
-heap_of start = zeros start.heap_low start.heap_size
+heap_of start = zeros (record { low = start.heap_low; size = start.heap_size; rights = 6 })
 
 -- a segment in memory: the file's bytes, then zeros
 abbrev pub segment_of : Image → Filled
@@ -39,4 +37,11 @@ first_state elf start = record {
   pc = elf.entry;
   registers = slice_set (replicate 32 0) 2 (start.stack_low + start.stack_size - 16);
   memory = contents_of (filled_of elf.segments start);
+}
+
+-- the machine in that state, with no page that counts as written
+abbrev pub first_standing : Elf → Start → Standing
+first_standing elf start = record {
+  state = first_state elf start;
+  dirty = replicate (page_count (regions_of elf.segments start)) false;
 }

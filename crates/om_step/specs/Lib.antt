@@ -1,7 +1,6 @@
-pub mod Contents
-pub mod Table
 pub mod State
+pub mod Actions
 pub mod Step
 pub mod First
-pub mod Gives
-pub mod Laid
+pub mod Acts
+pub mod Back

@@ -1,97 +1,135 @@
--- What a step does: RISC-V unprivileged ISA, chapter "RV32I Base Integer Instruction Set".
-use Rattle.std.specs.Prelude.{ℕ, ◌+◌, ◌<◌, ◌≢◌, ◌%◌, ◌^◌, Bool, not, nat_eq, if◌then◌else◌, Option, Some, None}
-use Rattle.std.specs.Option.{option_map, option_and_then}
-use Rattle.om_step.specs.Contents.{fetched_word}
-use Rattle.om_step.specs.Table.{decoded}
+-- What a step does at a state, and where the machine stops.
+use Rattle.std.specs.Prelude.{◌≡◌, ◌≢◌, ℕ, ◌+◌, ◌*◌, ◌<◌, ◌%◌, ◌^◌, Bool, nat_eq, is_none, if◌then◌else◌, List, Option, Some, None, Result, Ok, Err}
+use Rattle.std.specs.List.{list_all}
+use Rattle.std.specs.Option.{option_and_then}
+use Rattle.om_isa.specs.Table.{decoded, extended}
+use Rattle.om_isa.specs.declared.instr.Instr.{Instr}
+use Rattle.om_mem.specs.Contents.{addresses_from, after_write, fetched, loaded, low_bytes, outside}
+use Rattle.om_step.specs.Actions.{action_of}
 use Rattle.om_step.specs.State.{State, register, written}
-use Rattle.om_step.specs.declared.decode.Op.{Op}
-use Rattle.om_step.specs.declared.decode.Op.TheVariants.{Addi, Add, Lui, Beq, Bne, Ecall}
-use Rattle.om_step.specs.declared.decode.Instr.{Instr}
-use Rattle.om_step.specs.declared.change.Change.{Change}
-use Rattle.om_step.specs.declared.change.Change.TheVariants.{Go, Ask, Halt}
-use Rattle.om_step.specs.declared.machine.Outcome.{Outcome}
-use Rattle.om_step.specs.declared.machine.Outcome.TheVariants.{Next, Call, Unbuilt}
-use Rattle.om_step.specs.declared.machine.Touched.{Touched}
-use Rattle.om_step.specs.declared.machine.Touched.TheVariants.{Nothing, Reg, Bytes, Call as TouchedCall}
+use Rattle.om_step.specs.declared.action.Action.{Action}
+use Rattle.om_step.specs.declared.action.Action.TheVariants.{Go, Load, Store, Ask, Halt}
+use Rattle.om_step.specs.declared.cause.Cause.{Cause}
+use Rattle.om_step.specs.declared.cause.Cause.TheVariants.{Fetch, Illegal, Misaligned, Load as LoadStops, Store as StoreStops, Break}
+use Rattle.om_step.specs.declared.outcome.Outcome.{Outcome}
+use Rattle.om_step.specs.declared.outcome.Outcome.TheVariants.{Next, Call, Stop}
+use Rattle.om_step.specs.declared.outcome.Touched.{Touched}
+use Rattle.om_step.specs.declared.outcome.Touched.TheVariants.{Nothing, Reg, Bytes, Call as TouchedCall}
 
--- it writes a value to its destination, and goes on after itself
-abbrev pub writes : (rd value pc : ℕ) → Change
-writes rd value pc = Go rd (value % 2 ^ 32) ((pc + 4) % 2 ^ 32)
+-- the action of an instruction at a state
+abbrev pub action_by : State → Instr → Action
+action_by s i = action_of i.op i.rd (register s i.rs1) (register s i.rs2) i.imm s.pc
 
--- it goes to its target if its condition holds, which stops the machine where no instruction can stand there
-abbrev pub branches : Bool → (target pc : ℕ) → Change
-branches taken target pc =
-    if taken
-    then (if nat_eq (target % 4) 0 then Go 0 0 target else Halt)
-    else Go 0 0 ((pc + 4) % 2 ^ 32)
+-- the action of a word, or the stop where no row of the instruction table has it
+abbrev pub action_by_word : State → Option ℕ → Action
+action_by_word s None = Halt Fetch
+action_by_word s (Some word) = action_or_illegal s (decoded word)
+  where
+    action_or_illegal : State → Option Instr → Action
+    action_or_illegal s None = Halt Illegal
+    action_or_illegal s (Some i) = action_by s i
 
--- what each instruction does, where a and b are the contents of rs1 and rs2
-abbrev pub change_by : Op → (rd a b imm pc : ℕ) → Change
-change_by Lui rd a b imm pc = writes rd imm pc
-change_by Beq rd a b imm pc = branches (nat_eq a b) ((pc + imm) % 2 ^ 32) pc
-change_by Bne rd a b imm pc = branches (not (nat_eq a b)) ((pc + imm) % 2 ^ 32) pc
-change_by Addi rd a b imm pc = writes rd (a + imm) pc
-change_by Add rd a b imm pc = writes rd (a + b) pc
-change_by Ecall rd a b imm pc = Ask
-
--- the change that an instruction makes to a state
-abbrev pub change_of : State → Instr → Change
-change_of s i = change_by i.op i.rd (register s i.rs1) (register s i.rs2) i.imm s.pc
-
--- the change that comes next: none where no word can be fetched at the pc or the word is no instruction that is built
-unfoldable pub change_at : State → Option Change
-change_at s =
-    if nat_eq (s.pc % 4) 0
-    then option_map (change_of s) (option_and_then decoded (fetched_word s.memory s.pc))
-    else None
+-- the action that comes next at a state: the machine stops where the pc isn't a multiple of 4, then where a byte at it can't be fetched, then where the word is no instruction
+unfoldable pub action_at : State → Action
+action_at s = if nat_eq (s.pc % 4) 0 then action_by_word s (fetched s.memory s.pc) else Halt Misaligned
 
 -- what a write to a register touches; one to x0 is dropped
 abbrev pub touched_by : ℕ → Touched
 touched_by number = if nat_eq number 0 then Nothing else Reg number
 
--- what a step tells of a change
-abbrev pub told_of : Option Change → Outcome
-told_of None = Unbuilt
-told_of (Some (Go rd value pc)) = Next (touched_by rd)
-told_of (Some Ask) = Call
-told_of (Some Halt) = Unbuilt
+-- a load touches its destination, if its bytes are there
+abbrev pub told_load : ℕ → Option ℕ → Outcome
+told_load rd None = Stop LoadStops
+told_load rd (Some value) = Next (touched_by rd)
 
--- the state that a change makes; only `Go` makes another
-abbrev pub after : State → Option Change → State
-after s None = s
-after s (Some (Go rd value pc)) = record s { pc = pc; registers = written s.registers rd value }
-after s (Some Ask) = s
-after s (Some Halt) = s
+-- a store touches its bytes, if each of them may be written
+abbrev pub told_store : (address count : ℕ) → Option ℕ → Outcome
+told_store address count None = Next (Bytes address count)
+told_store address count (Some first) = Stop StoreStops
 
--- what a step tells at a state
-abbrev pub outcome : State → Outcome
-outcome s = told_of (change_at s)
+-- what a step tells of an action
+abbrev pub told_by : State → Action → Outcome
+told_by s (Go rd value pc) = Next (touched_by rd)
+told_by s (Load rd address count extends) = told_load rd (loaded s.memory address count)
+told_by s (Store address count value) = told_store address count (outside s.memory.regions address count)
+told_by s Ask = Call
+told_by s (Halt cause) = Stop cause
+
+-- the address of the next instruction
+abbrev pub next_pc : State → ℕ
+next_pc s = (s.pc + 4) % 2 ^ 32
+
+-- what a load writes: its bytes, the sign bit extended or not
+abbrev pub extended_if : Bool → (count value : ℕ) → ℕ
+extended_if extends count value = if extends then extended (8 * count) (value % 2 ^ (8 * count)) else value
+
+-- the state after a load, if its bytes are there
+abbrev pub after_load : State → (rd count : ℕ) → Bool → Option ℕ → State
+after_load s rd count extends None = s
+after_load s rd count extends (Some value) =
+    record s { pc = next_pc s; registers = written s.registers rd (extended_if extends count value) }
+
+-- the state after a store, if each of its bytes may be written
+abbrev pub after_store : State → (address count value : ℕ) → Option ℕ → State
+after_store s address count value None =
+    record s { pc = next_pc s; memory = after_write s.memory address (low_bytes count value) }
+after_store s address count value (Some first) = s
+
+-- the state that an action makes; at a call and at a stop nothing changes
+abbrev pub after : State → Action → State
+after s (Go rd value pc) = record s { pc = pc; registers = written s.registers rd value }
+after s (Load rd address count extends) = after_load s rd count extends (loaded s.memory address count)
+after s (Store address count value) = after_store s address count value (outside s.memory.regions address count)
+after s Ask = s
+after s (Halt cause) = s
+
+-- what happens at a state
+unfoldable pub outcome : State → Outcome
+outcome s = told_by s (action_at s)
 
 -- the state after a step
-abbrev pub next : State → State
-next s = after s (change_at s)
+unfoldable pub next : State → State
+next s = after s (action_at s)
 
 -- the state after a call that was answered with a value: it stands in a0, and the pc goes on
 abbrev pub answered : State → ℕ → State
-answered s value = record s { pc = (s.pc + 4) % 2 ^ 32; registers = written s.registers 10 value }
+answered s value = record s { pc = next_pc s; registers = written s.registers 10 value }
 
 -- how many steps an outcome made
 abbrev pub steps_of : Outcome → ℕ
 steps_of (Next touched) = 1
 steps_of Call = 0
-steps_of Unbuilt = 0
+steps_of (Stop cause) = 0
+
+-- the number of a stop, as a log tells it
+abbrev pub code_of : Cause → ℕ
+code_of Fetch = 1
+code_of Illegal = 2
+code_of Misaligned = 3
+code_of LoadStops = 4
+code_of StoreStops = 5
+code_of Break = 6
+
+-- ---- what a step leaves alone
 
 -- an outcome doesn't tell that a register was written
-abbrev pub Spares : Outcome → ℕ → Type 0
-Spares (Next Nothing) r = Unit {0}
-Spares (Next (Reg number)) r = r ≢ number
-Spares (Next (Bytes addr len)) r = Unit {0}
-Spares (Next TouchedCall) r = r ≢ 10
-Spares Call r = Unit {0}
-Spares Unbuilt r = Unit {0}
+abbrev pub SparesRegister : Outcome → ℕ → Type 0
+SparesRegister (Next Nothing) r = Unit {0}
+SparesRegister (Next (Reg number)) r = r ≢ number
+SparesRegister (Next (Bytes address count)) r = Unit {0}
+SparesRegister (Next TouchedCall) r = r ≢ 10
+SparesRegister Call r = Unit {0}
+SparesRegister (Stop cause) r = Unit {0}
 
--- a change writes a register that there is
-abbrev pub NamesRegister : Change → Type 0
-NamesRegister (Go rd value pc) = rd < 32
-NamesRegister Ask = Unit {0}
-NamesRegister Halt = Unit {0}
+-- an address is none of so many from one on
+abbrev pub IsElsewhere : (address count a : ℕ) → Type 0
+IsElsewhere address count a = (k : ℕ) → k < count → a ≢ (address + k) % 2 ^ 32
+
+-- an outcome doesn't tell that the byte at an address was written
+abbrev pub SparesByte : Outcome → ℕ → Type 0
+SparesByte (Next Nothing) a = Unit {0}
+SparesByte (Next (Reg number)) a = Unit {0}
+SparesByte (Next (Bytes address count)) a = IsElsewhere address count a
+SparesByte (Next TouchedCall) a = Unit {0}
+SparesByte Call a = Unit {0}
+SparesByte (Stop cause) a = Unit {0}

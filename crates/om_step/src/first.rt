@@ -1,16 +1,21 @@
 //! What is in memory when a run begins.
 
-ghost use Rattle.std.specs.Prelude.{◌≡◌, ◌+◌, ◌^◌, ◌<◌, ◌≤◌, ◌++◌, length, flat_map, position, replicate, vec_len, IfSome, IfOk, OnOk};
-ghost use Rattle.om_elf.specs.Image.{AreLoadable, FitsMemory};
-ghost use Rattle.om_step.specs.Contents.{overlap_of, shares};
+ghost use Rattle.std.specs.Prelude.{◌≡◌, ◌≤◌, ◌<◌, false, length, replicate, IfOk};
+ghost use Rattle.om_elf.specs.Image.{AreLoadable};
 ghost use Rattle.om_log.specs.Regions.{IsLawfulStart};
+ghost use Rattle.om_mem.specs.Contents.{all_zeros, contents_of, overlap_of};
+ghost use Rattle.om_mem.specs.Gives.{Gives};
+ghost use Rattle.om_mem.specs.Pages.{page_count};
 ghost use Rattle.om_step.specs.First.{filled_of, heap_of, regions_of, segment_of, stack_of};
 
-use crate::region::Region;
-use om_base::NoMemory;
+use om_base::{Items, NoMemory};
 use om_elf::Segment;
 use om_log::Start;
+use om_mem::{MapFault, Memory, Region, Regions, map_regions};
 use std::alloc::Global;
+
+/// The rights of stack and heap: to write and to read.
+const STACK_AND_HEAP: u8 = 6;
 
 /// The region of a segment.
 fn region_of(segment: &Segment<'_>) -> Region
@@ -22,9 +27,6 @@ fn region_of(segment: &Segment<'_>) -> Region
         rights: segment.rights,
     }
 }
-
-/// The rights of stack and heap: to write and to read.
-const STACK_AND_HEAP: u8 = 6;
 
 /// The stack's region.
 fn stack_region(start: &Start) -> Region
@@ -50,14 +52,10 @@ fn heap_region(start: &Start) -> Region
 
 /// The regions of a run: the segments that aren't empty, the stack, the heap.
 #[tactic(auto, unfolding(crate::specs::First::filled_of))]
-pub fn all_regions(
-    alloc: Global,
-    segments: &[Segment<'_>],
-    start: &Start,
-) -> Result<Vec<Region>, NoMemory>
-    ensures { IfOk result (λ regions. regions.items ≡ regions_of segments.now start.now) }
+fn all_regions(alloc: Global, segments: &[Segment<'_>], start: &Start) -> Result<Regions, NoMemory>
+    ensures { IfOk result (λ regions. regions ≡ regions_of segments.now start.now) }
 {
-    let mut regions = Vec::new(alloc);
+    let mut regions = Items::new(alloc);
     for segment in segments {
         if segment.memsz > 0 {
             regions.push(region_of(segment))?;
@@ -68,69 +66,43 @@ pub fn all_regions(
     Ok(regions)
 }
 
-/// Appends so many zeros.
-fn add_zeros(bytes: &mut Vec<u8>, count: usize) -> Result<(), NoMemory>
-    requires { vec_len bytes.old + count < 2 ^ 64 }
-    ensures ok { OnOk result (bytes.new.items ≡ bytes.old.items ++ replicate count 0) }
+/// Fills the segments' regions with the bytes that the file gives.
+fn fill_segments(memory: &mut Memory, segments: &[Segment<'_>], start: &Start)
+    requires segments { AreLoadable segments.now }
+    requires start { IsLawfulStart start.now }
+    requires apart { overlap_of (regions_of segments.now start.now) ≡ None }
+    requires zeros { memory.old.contents ≡ all_zeros (regions_of segments.now start.now) }
+    ensures { memory.new.contents ≡ contents_of (filled_of segments.now start.now) }
 {
-    let size = bytes.len() + count;
-    bytes.resize(size, 0)?;
-    Ok(())
+    let mut region = 0;
+    for segment in segments {
+        if segment.memsz > 0 {
+            memory.fill(region, segment.bytes);
+            region += 1;
+        }
+    }
 }
 
-/// Appends what a segment has in memory.
-fn add_segment(bytes: &mut Vec<u8>, segment: &Segment<'_>) -> Result<(), NoMemory>
-    requires fits { FitsMemory segment.now }
-    requires room { vec_len bytes.old + segment.now.memsz < 2 ^ 64 }
-    ensures ok { OnOk result (bytes.new.items ≡ bytes.old.items ++ (segment_of segment.now).bytes) }
-{
-    bytes.extend_from_slice(segment.bytes)?;
-    add_zeros(bytes, segment.memsz as usize - segment.bytes.len())
-}
-
-/// The first bytes of all regions, end to end.
-#[tactic(auto, unfolding(crate::specs::First::filled_of))]
-pub fn all_bytes(
+/// The memory in which a run begins, with no page that counts as written.
+///
+/// Errors: `Overlap` where two of the run's regions share an address; `NoMemory`.
+#[tactic(auto, using(crate::proofs::FirstLemmas::first_memory))]
+pub fn first_memory(
     alloc: Global,
     segments: &[Segment<'_>],
     start: &Start,
-) -> Result<Vec<u8>, NoMemory>
+) -> Result<Memory, MapFault>
     requires segments { AreLoadable segments.now }
     requires start { IsLawfulStart start.now }
-    ensures { IfOk result (λ bytes. bytes.items ≡ flat_map (λ f. f.bytes) (filled_of segments.now start.now)) }
+    ensures { Gives (overlap_of (regions_of segments.now start.now))
+        (record {
+          contents = contents_of (filled_of segments.now start.now);
+          dirty = replicate (page_count (regions_of segments.now start.now)) false;
+        }) result }
 {
-    let mut bytes = Vec::new(alloc);
-    for segment in segments {
-        if segment.memsz > 0 {
-            add_segment(&mut bytes, segment)?;
-        }
-    }
-    add_zeros(&mut bytes, start.stack_size as usize)?;
-    add_zeros(&mut bytes, start.heap_size as usize)?;
-    Ok(bytes)
-}
-
-/// The place of the first region that shares an address with `region`.
-fn first_sharing(region: &Region, others: &[Region]) -> Option<usize>
-    ensures place { result ≡ position (shares region.now) others.now }
-    ensures within { IfSome result (λ place. place < length others.now) }
-{
-    others.iter().position(|other| region.shares(other))
-}
-
-/// The least pair of places whose regions share an address, if any do.
-pub fn overlap(regions: &[Region]) -> Option<(u32, u32)>
-    requires { length regions.now < 2 ^ 32 }
-    ensures { result ≡ overlap_of regions.now }
-{
-    let mut a = 0;
-    let mut rest = regions;
-    while let Some((region, others)) = rest.split_first() {
-        if let Some(place) = first_sharing(region, others) {
-            return Some((a, a + 1 + place as u32));
-        }
-        a += 1;
-        rest = others;
-    }
-    None
+    let regions = all_regions(alloc, segments, start)?;
+    let mut memory = map_regions(alloc, &regions)?;
+    fill_segments(&mut memory, segments, start);
+    memory.clear_dirty();
+    Ok(memory)
 }

@@ -1,21 +1,30 @@
-//! The machine: RV32I of the RISC-V unprivileged ISA, chapter "RV32I Base Integer Instruction Set".
+//! The machine: RV32IM with Zifencei of the RISC-V unprivileged ISA, over memory with rights.
 //!
-//! Built so far are the instructions ADDI, ADD, LUI, BEQ, BNE and ECALL. At every other word, and where
-//! the machine would stop, [`Machine::step`] answers [`Outcome::Unbuilt`].
+//! A load, a store or a fetch may have any alignment in memory and is done byte by byte in meaning; only
+//! the pc must be a multiple of 4.
 #![tactic(auto)]
 
-mod change;
-mod decode;
+mod acting;
+mod action;
+mod arithmetic;
+mod back;
+mod cause;
 mod first;
 mod machine;
-mod memory;
 mod meter;
-mod region;
+mod outcome;
+mod register_file;
+mod stepping;
 #[cfg(test)]
 mod tests;
+#[cfg(test)]
+mod vectors;
 
-pub use machine::{Machine, Outcome, Touched};
-pub use memory::{MapFault, Memory};
+pub use back::Pages;
+pub use cause::Cause;
+pub use machine::Machine;
 pub use meter::StepMeter;
 pub use om_log::Start;
-pub use region::Region;
+pub use om_mem::{MapFault, Memory};
+pub use outcome::{Outcome, Touched};
+pub use register_file::Core;

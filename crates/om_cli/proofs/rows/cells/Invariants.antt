@@ -5,4 +5,4 @@ use Rattle.om_cli.proofs.rows.cells.Given as goal
 
 -- the cells of the columns so far
 abbrev pub invariant-loop-column : goal.invariant-loop-column
-invariant-loop-column l = l.cells ≡ map (cell_at (row_of l.view.machine.now l.view.step)) (take l.column-index l.columns)
+invariant-loop-column l = l.cells ≡ map (cell_at (row_of l.view.machine.now.state l.view.step)) (take l.column-index l.columns)

@@ -1,5 +1,5 @@
 use Rattle.std.proofs.Common.{sym, arith}
-use Rattle.om_cli.proofs.RowsLemmas.{at_place, finished, first_halt-next, gives_stop, halted, is_end, is_no_end, kept-next, last_of, moves}
+use Rattle.om_cli.proofs.RowsLemmas.{at_place, finished, first_departure-next, gives_stop, is_end, kept-next, last_of, moves}
 use Rattle.om_cli.proofs.rows.rows_of.Goals as goal
 
 pub loop-rows-preserved : goal.loop-rows-preserved
@@ -13,7 +13,7 @@ loop-rows-preserved c =
       entries = c.loop-rows.invariant.entries;
       first = c.loop-rows.invariant.first;
       within = omega arith;
-      going = first_halt-next c.args.replay.now.entries c.args.replay.now.first c.loop-rows.replay.step c.loop-rows.invariant.going (at_place c.loop-rows.replay c.args.replay.now.entries c.args.replay.now.first _ c.loop-rows.invariant.entries c.loop-rows.invariant.first on.0);
+      going = first_departure-next c.args.replay.now.entries c.args.replay.now.first c.loop-rows.replay.step c.loop-rows.invariant.going (at_place c.loop-rows.replay c.args.replay.now.entries c.args.replay.now.first _ c.loop-rows.invariant.entries c.loop-rows.invariant.first on.0);
       kept = kept-next c.loop-rows.replay c.args.replay.now.entries c.args.replay.now.first c.args.question.now c.loop-rows.rows _ c.loop-rows.invariant.entries c.loop-rows.invariant.first c.loop-rows.invariant.kept c.in_ok-note.ensures.ok;
       metered = omega arith;
     })
@@ -33,6 +33,5 @@ returns-in-None c =
 
 pub returns-in-Some : goal.returns-in-Some
 returns-in-Some c =
-    let never = is_no_end c.in-Err.halt c.in-Some.stopped (sym c.in-Some.ensures) in
-    gives_stop c.args.replay.now.entries c.args.replay.now.first c.args.question.now c.in-Err.halt c.in-Some.stopped (sym c.in-Some.ensures)
-    (halted c.loop-rows.replay c.args.replay.now.entries c.args.replay.now.first c.in-Err.halt c.loop-rows.invariant.entries c.loop-rows.invariant.first c.loop-rows.invariant.within c.loop-rows.invariant.going never (sym c.in-Err.ensures.verdict))
+    gives_stop c.loop-rows.replay c.args.replay.now.entries c.args.replay.now.first c.args.question.now c.in-Err.halt c.in-Some.stopped (sym c.in-Some.ensures)
+    c.loop-rows.invariant.entries c.loop-rows.invariant.first c.loop-rows.invariant.within c.loop-rows.invariant.going (sym c.in-Err.ensures.verdict)

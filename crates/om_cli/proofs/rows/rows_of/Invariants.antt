@@ -1,16 +1,16 @@
 use Rattle.std.proofs.Common.{◌≡◌, ℕ, ◌-◌, ◌≤◌, None}
-use Rattle.om_run.specs.Departure.{first_halt}
+use Rattle.om_run.specs.Departure.{first_departure}
 use Rattle.om_run.specs.Run.{below, end_of}
 use Rattle.om_cli.specs.Answer.{cells_at, kept_below}
 use Rattle.om_cli.proofs.rows.rows_of.Given as goal
 
--- the run is the same, there was no halt so far, and the rows so far are kept
+-- the run is the same, it didn't depart so far, and the rows so far are kept
 abbrev pub invariant-loop-rows : goal.invariant-loop-rows
 invariant-loop-rows l = record {
   entries : l.replay.entries ≡ l.fn.replay.entries;
   first : l.replay.first ≡ l.fn.replay.first;
   within : l.replay.step ≤ (end_of l.fn.replay.entries).step;
-  going : first_halt l.fn.replay.entries l.fn.replay.first (below l.replay.step) ≡ None;
+  going : first_departure l.fn.replay.entries l.fn.replay.first (below l.replay.step) ≡ None;
   kept : l.rows ≡ cells_at l.fn.replay.entries l.fn.replay.first l.question (kept_below l.fn.replay.entries l.fn.replay.first l.question.filter l.replay.step);
   metered : l.meter ≡ l.replay.step;
 }

@@ -5,4 +5,4 @@ use Rattle.om_run.proofs.judge.judge_arguments.Given as goal
 abbrev pub invariant-loop-j : goal.invariant-loop-j
 invariant-loop-j l =
     (l.j-items ≡ 0 ∷ 1 ∷ 2 ∷ 3 ∷ 4 ∷ 5 ∷ [])
-    × (first_of (map (departs_for_argument l.call l.step l.machine) l.j-items) ≡ first_of (map (departs_for_argument l.call l.step l.machine) (drop l.j-index l.j-items)))
+    × (first_of (map (departs_for_argument l.call l.step l.machine.state) l.j-items) ≡ first_of (map (departs_for_argument l.call l.step l.machine.state) (drop l.j-index l.j-items)))

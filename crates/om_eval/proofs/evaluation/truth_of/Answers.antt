@@ -1,0 +1,9 @@
+use Rattle.std.proofs.Common.{sym, ap, ◌∙◌}
+use Rattle.om_eval.specs.Meaning.{truth}
+use Rattle.om_eval.proofs.Members.{truth-Compare, truth_one}
+use Rattle.om_eval.proofs.evaluation.truth_of.Goals as goal
+
+pub returns-in-Compare : goal.returns-in-Compare
+returns-in-Compare g c =
+    let one = truth_one (g.C.Cells.tuple c.args.cells.now) c.as_slice-members.result.now c.index-members-0.result c.if-members-eq1.true c.index-members-0.is in
+    rw (c.in-And.is, ← c.as_slice-members.ensures) (c.truth_of_comparison.ensures ∙ sym (truth-Compare _ _ _ _) ∙ ap (truth (g.C.Cells.tuple c.args.cells.now)) (sym c.in-Compare.is) ∙ one)
