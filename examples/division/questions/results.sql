@@ -1,0 +1,1 @@
+SELECT a2, a3 FROM states WHERE step = 4

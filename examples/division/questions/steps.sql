@@ -1,0 +1,1 @@
+SELECT step, pc, a0, a1, a2, a3 FROM states WHERE pc < 65556
