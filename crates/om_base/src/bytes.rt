@@ -30,6 +30,13 @@ impl Bytes {
         Ok(Bytes { items })
     }
 
+    /// The bytes of `items`. Takes no memory.
+    pub fn from_vec(items: Vec<u8>) -> Bytes
+        ensures { result ≡ items.items }
+    {
+        Bytes { items }
+    }
+
     /// Appends `bytes`.
     pub fn add(&mut self, bytes: &[u8]) -> Result<(), NoMemory>
         ensures ok { OnOk result (self.new ≡ self.old ++ bytes.now) }

@@ -36,7 +36,7 @@ fn decimals_have_a_sign_and_no_leading_zeros(rt: HostRuntime) -> Result<(), Fail
 
 #[test]
 fn lists_hold_what_was_put_in(rt: HostRuntime) -> Result<(), Fail> {
-    let mut bytes = Bytes::copy_of(rt.alloc(), b"ab")?;
+    let mut bytes = Bytes::from_vec(Vec::from_slice(rt.alloc(), b"ab")?);
     bytes.add(b"c")?;
     assert_eq!(rt; bytes.bytes(), b"abc".as_slice());
     let mut text = Text::copy_of(rt.alloc(), b"")?;
