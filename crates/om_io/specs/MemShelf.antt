@@ -1,4 +1,4 @@
--- A shelf in memory, and what a take leaves of it.
+-- A shelf in memory, and what a take and a put leave of it.
 use Rattle.std.specs.Prelude.{ℕ, List, [], ◌∷◌, ◌++◌, Result, Ok, Err}
 use Rattle.om_io.specs.Counts.{one_more}
 use Rattle.om_io.specs.declared.shelf.Taken.{Taken}
@@ -6,12 +6,13 @@ use Rattle.om_io.specs.declared.shelf.ShelfFail.{ShelfFail}
 use Rattle.om_io.specs.declared.shelf.ShelfFail.TheVariants.{NoMemory, Failed}
 
 -- names with their bytes, the numbers of the calls that fail, how many calls there were, and the names of
--- the files that could not be taken, oldest first
+-- the files that could not be taken and of those that could not be put, oldest first
 pub record ShelfState : Type 0 where
   pub files : List (List ℕ × List ℕ)
   pub failing : List ℕ
   pub calls : ℕ
   pub failed_takes : List (List ℕ)
+  pub failed_puts : List (List ℕ)
 
 -- the state after one more call
 abbrev pub called : ShelfState → ShelfState
@@ -22,3 +23,9 @@ abbrev pub after_take : ShelfState → List ℕ → Result Taken ShelfFail → S
 after_take state name (Ok taken) = called state
 after_take state name (Err NoMemory) = called state
 after_take state name (Err Failed) = record (called state) { failed_takes = state.failed_takes ++ name ∷ [] }
+
+-- the state after a put of bytes under a name with that result
+abbrev pub after_put : ShelfState → List ℕ → List ℕ → Result (Unit {0}) ShelfFail → ShelfState
+after_put state name bytes (Ok done) = record (called state) { files = (name, bytes) ∷ state.files }
+after_put state name bytes (Err NoMemory) = called state
+after_put state name bytes (Err Failed) = record (called state) { failed_puts = state.failed_puts ++ name ∷ [] }

@@ -1,5 +1,5 @@
 -- What a shelf holds, and what a file that was taken says of it.
-use Rattle.std.specs.Prelude.{ℕ, ◌≡◌, ◌<◌, ◌≤◌, List, length, Option, Some, Result, IsErrOf}
+use Rattle.std.specs.Prelude.{ℕ, ◌≡◌, ◌≢◌, ◌<◌, ◌≤◌, List, length, Option, Some, Result, IsErrOf}
 use Rattle.om_io.specs.Counts.{Rose}
 use Rattle.om_io.specs.declared.shelf.Taken.{Taken}
 use Rattle.om_io.specs.declared.shelf.Taken.TheVariants.{Whole, Longer}
@@ -28,3 +28,10 @@ NoneFalls before now = (name : List ℕ) → before name ≤ now name
 pub record FailsByCount {T : Type 0} (before now : List ℕ → ℕ) (name : List ℕ) (result : Result T ShelfFail) : Type 0 where
   pub later : NoneFalls before now
   pub failed : IsErrOf result Failed → Rose (before name) (now name)
+
+-- what is told now is what was held before, but that this name holds these bytes
+pub record Holds (before : Contents) (told : Option Contents) (name bytes : List ℕ) : Type 0 where
+  pub now : Contents
+  pub told_now : told ≡ Some now
+  pub held : now name ≡ Some bytes
+  pub others : (other : List ℕ) → other ≢ name → now other ≡ before other

@@ -7,7 +7,7 @@ use om_base::{Bytes, NoMemory, Text};
 use std::alloc::Global;
 use std::marker::Model;
 
-/// Names with their bytes, in the order in which they were added.
+/// Names with their bytes. Of a name that stands there twice the first bytes count.
 #[derive(Debug, Drop)]
 pub struct Files {
     items: Vec<(Text, Bytes)>,
@@ -41,6 +41,18 @@ impl Files {
         let name = Text::copy_of(alloc, name.as_bytes())?;
         let bytes = Bytes::copy_of(alloc, bytes)?;
         self.items.push((name, bytes))?;
+        Ok(())
+    }
+
+    /// From here on the name holds these bytes. Those that it held stay behind them.
+    pub(crate) fn put(&mut self, name: &str, bytes: &[u8]) -> Result<(), NoMemory>
+        ensures ok { OnOk result (self.new ≡ (name.now, bytes.now) ∷ self.old) }
+        ensures err { OnErr result (self.new ≡ self.old) }
+    {
+        let alloc = self.alloc();
+        let name = Text::copy_of(alloc, name.as_bytes())?;
+        let bytes = Bytes::copy_of(alloc, bytes)?;
+        self.items.insert(0, (name, bytes))?;
         Ok(())
     }
 

@@ -1,4 +1,5 @@
-//! The outside of `omni`: files come in through a [`Shelf`], and bytes go out through a [`Sink`].
+//! The outside of `omni`: files come in through a [`Shelf`] and are put there, and bytes go out through a
+//! [`Sink`].
 //!
 //! What the program does is written over these two traits, whose contracts say what a file holds, what
 //! was written, and which failures may be told. [`MemShelf`] and [`MemSink`] keep all in memory and fail

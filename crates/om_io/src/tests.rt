@@ -1,14 +1,21 @@
-//! Each public call once, and two functions that write as the callers of this crate do.
+//! Each public call once, and three functions that call as the callers of this crate do.
 
-ghost use Rattle.std.specs.Prelude.{◌++◌};
+ghost use Rattle.std.specs.Prelude.{◌++◌, Some, IfSome, IfOk};
+ghost use Rattle.om_io.specs.Shelf.{IsTakenOf};
 ghost use Rattle.om_io.specs.Writing.{Puts, Tells};
 
+mod unmoved;
+
+use self::unmoved::Unmoved;
 use crate::{
     Calls, DirShelf, Files, MemShelf, MemSink, Shelf, ShelfFail, Sink, SinkFail, StdSink, Taken,
     put_all, put_pieces,
 };
+use std::alloc::Global;
+use std::os::unix::fs::symlink;
+use std::path::PathBuf;
 use std::test::Fail;
-use std::{env, fs, process};
+use std::{env, fs, io, process};
 
 /// Writes three pieces, one after another.
 fn put_three<S: Sink>(sink: &mut S, a: &[u8], b: &[u8], c: &[u8]) -> Result<(), SinkFail>
@@ -33,6 +40,31 @@ fn tell<S: Sink>(sink: &mut S, line: &[u8])
         (S.refused_growths sink.old) (S.refused_growths sink.new) line.now }
 {
     let _ = put_all(sink, line);
+}
+
+/// Puts a file, and takes it.
+fn put_and_take<S: Shelf>(
+    shelf: &mut S,
+    alloc: Global,
+    name: &str,
+    bytes: &[u8],
+    most: u64,
+) -> Result<Taken, ShelfFail>
+    ensures { IfSome (S.told shelf.old) (λ _. IfOk result (IsTakenOf (Some bytes.now) most)) }
+{
+    match shelf.put(alloc, name, bytes) {
+        Ok(()) => {}
+        Err(fail) => return Err(fail),
+    }
+    shelf.take(alloc, name, most)
+}
+
+/// Whether the shelf gives these bytes under that name.
+fn gives<S: Shelf>(shelf: &mut S, alloc: Global, name: &str, bytes: &[u8]) -> bool {
+    match shelf.take(alloc, name, u64::MAX) {
+        Ok(Taken::Whole(taken)) => taken.bytes() == bytes,
+        Ok(Taken::Longer) | Err(_) => false,
+    }
 }
 
 #[test]
@@ -69,6 +101,39 @@ fn memory_gives_what_was_put_in(rt: HostRuntime) -> Result<(), Fail> {
 }
 
 #[test]
+fn memory_holds_what_was_put(rt: HostRuntime) -> Result<(), Fail> {
+    let alloc = rt.alloc();
+    let mut files = Files::new(alloc);
+    files.add("a", b"first")?;
+    let mut failing = Calls::new(alloc);
+    failing.add(5)?;
+    let mut shelf = MemShelf::new(files, failing);
+
+    // Each row makes two calls, so the fifth is the third put.
+    let rows = [
+        ("a", "second", Ok(()), "second"),
+        ("b", "other", Ok(()), "other"),
+        ("a", "third", Err(ShelfFail::Failed), "second"),
+        ("b", "", Ok(()), ""),
+    ];
+    for (name, bytes, want, held) in rows {
+        assert_eq!(rt; shelf.put(alloc, name, bytes.as_bytes()), want, "{name}");
+        assert_eq!(rt;
+            gives(&mut shelf, alloc, name, held.as_bytes()),
+            true,
+            "{name}"
+        );
+    }
+    let longer = matches!(
+        put_and_take(&mut shelf, alloc, "c", b"fourth", 5),
+        Ok(Taken::Longer)
+    );
+    assert_eq!(rt; longer, true);
+    assert_eq!(rt; shelf.held("c"), Some(b"fourth".as_slice()));
+    Ok(())
+}
+
+#[test]
 fn memory_keeps_what_was_written(rt: HostRuntime) -> Result<(), Fail> {
     let alloc = rt.alloc();
     let mut failing = Calls::new(alloc);
@@ -91,14 +156,20 @@ fn memory_keeps_what_was_written(rt: HostRuntime) -> Result<(), Fail> {
     Ok(())
 }
 
+/// A new folder for a test of that name.
+fn new_folder(rt: &HostRuntime, name: &str) -> io::Result<PathBuf> {
+    let mut folder = env::temp_dir(rt)?;
+    folder.push(format!(in rt.alloc(); "om_io-{name}-{}", process::id(rt.process()))?)?;
+    fs::create_dir_all(rt, folder.as_path())?;
+    Ok(folder)
+}
+
 #[test]
 fn a_folder_gives_its_files(rt: HostRuntime) -> Result<(), Fail> {
     let alloc = rt.alloc();
-    let mut folder = env::temp_dir(&rt)?;
-    folder.push(format!(in alloc; "om_io-{}", process::id(rt.process()))?)?;
+    let folder = new_folder(&rt, "take")?;
     let mut file = folder.clone()?;
     file.push("four")?;
-    fs::create_dir_all(&rt, folder.as_path())?;
     fs::write(&rt, file.as_path(), "abcd")?;
 
     // The last name is absolute.
@@ -120,6 +191,65 @@ fn a_folder_gives_its_files(rt: HostRuntime) -> Result<(), Fail> {
             Err(fail) => assert_eq!(rt; Err(fail), want, "{name}"),
         }
     }
+    fs::remove_dir_all(&rt, folder.as_path())?;
+    Ok(())
+}
+
+#[test]
+fn a_folder_holds_what_was_put(rt: HostRuntime) -> Result<(), Fail> {
+    let alloc = rt.alloc();
+    let folder = new_folder(&rt, "put")?;
+    let mut shelf = DirShelf::new(&rt, folder.as_str());
+    let mut link = folder.clone()?;
+    link.push("link")?;
+    symlink(&rt, "new", link.as_str())?;
+
+    // The second name is where the bytes of the third would be written, were it free.
+    let rows = [
+        ("new", "one", Ok(()), true),
+        ("four.omni-part0", "mine", Ok(()), true),
+        ("four", "two", Ok(()), true),
+        ("four", "", Ok(()), true),
+        ("link", "three", Ok(()), true),
+        ("none/file", "four", Err(ShelfFail::Failed), false),
+        (".", "five", Err(ShelfFail::Failed), false),
+        ("/dev/null", "six", Ok(()), false),
+    ];
+    for (name, bytes, want, held) in rows {
+        assert_eq!(rt; shelf.put(alloc, name, bytes.as_bytes()), want, "{name}");
+        assert_eq!(rt;
+            gives(&mut shelf, alloc, name, bytes.as_bytes()),
+            held,
+            "{name}"
+        );
+    }
+
+    // What was written to the link is in its file, and no part is left behind.
+    assert_eq!(rt; gives(&mut shelf, alloc, "new", b"three"), true);
+    assert_eq!(rt; gives(&mut shelf, alloc, "four.omni-part0", b"mine"), true);
+    assert_eq!(rt; fs::read_dir(&rt, folder.as_path())?.count(), 4);
+    fs::remove_dir_all(&rt, folder.as_path())?;
+    Ok(())
+}
+
+#[test]
+fn a_put_that_fails_leaves_the_folder_as_it_was(rt: HostRuntime) -> Result<(), Fail> {
+    let alloc = rt.alloc();
+    let folder = new_folder(&rt, "unmoved")?;
+    let files = Unmoved { files: &rt };
+    let mut held = folder.clone()?;
+    held.push("held")?;
+    fs::write(&rt, held.as_path(), "first")?;
+    let mut shelf = DirShelf::new(&files, folder.as_str());
+    for name in ["held", "new"] {
+        assert_eq!(rt;
+            shelf.put(alloc, name, b"second"),
+            Err(ShelfFail::Failed),
+            "{name}"
+        );
+    }
+    assert_eq!(rt; gives(&mut shelf, alloc, "held", b"first"), true);
+    assert_eq!(rt; fs::read_dir(&rt, folder.as_path())?.count(), 1);
     fs::remove_dir_all(&rt, folder.as_path())?;
     Ok(())
 }
