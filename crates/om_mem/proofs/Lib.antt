@@ -6,3 +6,4 @@ pub mod LawLemmas
 pub mod FilledLemmas
 pub mod SpotLemmas
 pub mod WriteLemmas
+pub mod AcrossLemmas

@@ -265,13 +265,6 @@ piece-same n at xs ys long each =
 pub page-same : (xs ys : List ℕ) (page : ℕ) → length xs ≡ length ys → ((k : ℕ) → k / 4096 ≡ page → get_or xs k 0 ≡ get_or ys k 0) → take 4096 (drop (page * 4096) xs) ≡ take 4096 (drop (page * 4096) ys)
 page-same xs ys page long each = piece-same 4096 (page * 4096) xs ys long (λ i less. each (page * 4096 + i) (omega arith))
 
--- to set the byte at a place changes no other page than that of the place
-pub page-set : (bs : List ℕ) (k b page : ℕ) → k / 4096 ≢ page → take 4096 (drop (page * 4096) (set bs k b)) ≡ take 4096 (drop (page * 4096) bs)
-page-set bs k b page other =
-    page-same (set bs k b) bs page (length-set bs k b) (λ j there.
-    let apart : j ≢ k = λ same. other (ap (λ n. n / 4096) (sym same) ∙ there) in
-    get_or-set_other bs k j b 0 apart)
-
 pub same_none : (bs : List ℕ) (ds : List Bool) → IsSame bs ds bs ds
 same_none bs ds = record { byte = λ k _. refl; flag = λ page is. is }
 
@@ -291,15 +284,6 @@ same_page bs ds bs2 ds2 bs3 page same outside = record {
   byte = λ k clean. let parts = set-flag ds2 page (k / 4096) clean in outside k parts.0 ∙ same.byte k parts.1;
   flag = λ other clean. same.flag other (set-flag ds2 page other clean).1;
 }
-
--- after the byte at a place was set and its page flagged
-pub same_set : (bs : List ℕ) (ds : List Bool) (bs2 : List ℕ) (ds2 : List Bool) (k b : ℕ) → IsSame bs ds bs2 ds2 → IsSame bs ds (set bs2 k b) (set ds2 (k / 4096) true)
-same_set bs ds bs2 ds2 k b same =
-    same_page bs ds bs2 ds2 (set bs2 k b) (k / 4096) same (λ j elsewhere. get_or-set_other bs2 k j b 0 (λ here. elsewhere (ap (λ n. n / 4096) here)))
-
--- after a page was flagged without need
-pub same_flag : (bs : List ℕ) (ds : List Bool) (bs2 : List ℕ) (ds2 : List Bool) (page : ℕ) → IsSame bs ds bs2 ds2 → IsSame bs ds bs2 (set ds2 page true)
-same_flag bs ds bs2 ds2 page same = same_page bs ds bs2 ds2 bs2 page same (λ k _. refl)
 
 -- memory whose bytes are so is kept
 pub kept_from-same : (rs : List Region) (bs : List ℕ) (ds : List Bool) (bs2 : List ℕ) (ds2 : List Bool) → overlap_of rs ≡ None → length bs ≡ sum_by (λ (r : Region). r.size) rs → length bs2 ≡ length bs → IsSame bs ds bs2 ds2 → IsKept (record { contents = laid rs bs; dirty = ds }) (record { contents = laid rs bs2; dirty = ds2 })

@@ -102,12 +102,6 @@ may_at-place (r ∷ rs) q right =
     same_rights n (Some f) = refl
 
 module _ (rs : List Region) (spot : Spot) (is : IsSpot rs spot) where
-  -- the place of an address of the spot
-  pub place-spot_at : (q : ℕ) → spot.low ≤ q → q < spot.low + spot.size → place_of rs q ≡ Some (spot.at + (q - spot.low), spot.rights)
-  place-spot_at q low high =
-      let same : spot.low + (q - spot.low) ≡ q = omega arith in
-      subst (λ x. place_of rs x ≡ Some (spot.at + (q - spot.low), spot.rights)) same (is.place (q - spot.low) (omega arith))
-
   -- the right to an address of the spot is the spot's
   pub may_at-spot : (k right : ℕ) → k < spot.size → may_at rs (spot.low + k) right ≡ nat_eq (bit_and spot.rights right) right
   may_at-spot k right less = rw (may_at-place rs (spot.low + k) right, is.place k less) refl

@@ -3,13 +3,12 @@ use Rattle.std.proofs.Common.{◌≡◌, ◌≢◌, ◌⊎◌, ℕ, zero, suc, �
 use Rattle.std.specs.Prelude.{Some, None, find, bit_and}
 use Rattle.std.specs.Ordering.{nat_cmp}
 use Rattle.std.specs.FinMap as fin
-use Rattle.std.proofs.lemmas.Bool.Decides.{nat_tests}
-use Rattle.std.proofs.lemmas.List.{get_or-set_other, length-set, drop_more, drop_all}
+use Rattle.std.proofs.lemmas.List.{get_or-set_other, length-set}
 use Rattle.om_mem.specs.Contents.{Contents, addresses_from, after_write, low_bytes, may_at, outside, region_in, stored}
 use Rattle.om_mem.specs.Laid.{laid, AreMapped, IsLaid, IsSame, IsSpot, overlaid}
 use Rattle.om_mem.specs.declared.region.Region.{Region}
 use Rattle.om_mem.specs.declared.spot.Spot.{Spot}
-use Rattle.om_mem.proofs.PageLemmas.{insert-laid, regions-laid, set-flag}
+use Rattle.om_mem.proofs.PageLemmas.{insert-laid, regions-laid}
 use Rattle.om_mem.proofs.SpotLemmas.{differ, may_at-spot_at, next-addresses, none_outside-spot, region-spot}
 
 -- ---- the first address that may not be written
@@ -22,30 +21,12 @@ outside-suc rs q n =
       | false ↦ refl
     ]
 
-pub outside-none : (rs : List Region) (q : ℕ) → outside rs q 0 ≡ None
-unfolding outside
-outside-none rs q = refl
-
 -- of some addresses the first that may not be written is the first of all, or one of the others
 pub outside-more : (rs : List Region) (q n : ℕ) → 0 < n → outside rs q n ≡ (if may_at rs q 2 then outside rs ((q + 1) % 2 ^ 32) (n - 1) else Some q)
 outside-more rs q zero some = absurd (omega arith)
 outside-more rs q (suc n) some = let less : suc n - 1 ≡ n = omega arith in rw less (outside-suc rs q n)
 
 -- ---- bytes one by one
-
-pub stored-more : (m : fin.FinMap nat_cmp ℕ) (q : ℕ) (new : List ℕ) (i : ℕ) → i < length new → stored m (addresses_from q (length (drop i new))) (drop i new) ≡ stored (fin.insert m q (get_or new i 0)) (addresses_from ((q + 1) % 2 ^ 32) (length (drop (i + 1) new))) (drop (i + 1) new)
-stored-more m q new i below = rw (drop_more new i 0 below) refl
-
-pub stored-all : (m : fin.FinMap nat_cmp ℕ) (q : ℕ) (new : List ℕ) (i : ℕ) → length new ≤ i → stored m (addresses_from q (length (drop i new))) (drop i new) ≡ m
-stored-all m q new i past = rw (drop_all i new past) refl
-
-pub inside-more : (rs : List Region) (q : ℕ) (new : List ℕ) (i : ℕ) → i < length new → outside rs q (length (drop i new)) ≡ None → (may_at rs q 2 ≡ true) × (outside rs ((q + 1) % 2 ^ 32) (length (drop (i + 1) new)) ≡ None)
-inside-more rs q new i below inside =
-    let more : length (drop i new) ≡ suc (length (drop (i + 1) new)) = rw (drop_more new i 0 below) refl in
-    elim (may_at rs q 2) as (λ b. (if b then outside rs ((q + 1) % 2 ^ 32) (length (drop (i + 1) new)) else Some q) ≡ None → (b ≡ true) × (outside rs ((q + 1) % 2 ^ 32) (length (drop (i + 1) new)) ≡ None)) [
-      | true ↦ λ e. (refl, e)
-      | false ↦ λ e. absurd (cc)
-    ] (sym (ap (outside rs q) more ∙ outside-suc rs q (length (drop (i + 1) new))) ∙ inside)
 
 -- ---- bytes from a place on
 
@@ -60,21 +41,6 @@ get_or-overlaid bs at (b ∷ new) k away =
     let off : k ≢ at = elim away as (λ _. k ≢ at) [ inl low ↦ omega arith | inr high ↦ omega arith ] in
     let further : (k < at + 1) ⊎ (at + 1 + length new ≤ k) = elim away as (λ _. (k < at + 1) ⊎ (at + 1 + length new ≤ k)) [ inl low ↦ inl (omega arith) | inr high ↦ inr (omega arith) ] in
     get_or-overlaid (set bs at b) (at + 1) new k further ∙ get_or-set_other bs at k b 0 off
-
--- few bytes reach over two pages at most
-pub same-overlaid : (bs : List ℕ) (ds : List Bool) (at : ℕ) (new : List ℕ) → 0 < length new → length new ≤ 4 → IsSame bs ds (overlaid bs at new) (set (set ds (at / 4096) true) ((at + length new - 1) / 4096) true)
-same-overlaid bs ds at new some few = record {
-  byte = λ k clean.
-      let last = set-flag (set ds (at / 4096) true) ((at + length new - 1) / 4096) (k / 4096) clean in
-      let first = set-flag ds (at / 4096) (k / 4096) last.1 in
-      get_or-overlaid bs at new k (elsewhere k last.0 first.0);
-  flag = λ page clean.
-      let last = set-flag (set ds (at / 4096) true) ((at + length new - 1) / 4096) page clean in
-      (set-flag ds (at / 4096) page last.1).1;
-}
-  where
-    elsewhere : (k : ℕ) → k / 4096 ≢ (at + length new - 1) / 4096 → k / 4096 ≢ at / 4096 → (k < at) ⊎ (at + length new ≤ k)
-    elsewhere k off_last off_first = grind (arith, nat_tests)
 
 -- what is the same after one call and after another is so after both
 pub same_then : (bs bs2 bs3 : List ℕ) (ds ds2 ds3 : List Bool) → IsSame bs ds bs2 ds2 → IsSame bs2 ds2 bs3 ds3 → IsSame bs ds bs3 ds3

@@ -53,6 +53,10 @@ abbrev pub addresses_from : ℕ → ℕ → List ℕ
 addresses_from address zero = []
 addresses_from address (suc n) = address ∷ addresses_from ((address + 1) % 2 ^ 32) n
 
+-- a region holds each of so many addresses from one on
+unfoldable pub are_mapped : List Region → (address count : ℕ) → Bool
+are_mapped regions address count = list_all (λ a. is_some (region_at regions a)) (addresses_from address count)
+
 -- ---- reading
 
 -- the bytes at some addresses, if a region holds each of them

@@ -1,8 +1,8 @@
 -- How memory is kept: the bytes of all regions, laid end to end in the regions' order. Nobody above needs it.
-use Rattle.std.specs.Prelude.{◌≡◌, ℕ, ◌+◌, ◌-◌, ◌*◌, ◌/◌, ◌^◌, ◌≤◌, ◌<◌, Bool, false, List, [], ◌∷◌, ◌++◌, length, take, drop, set, get_or, sum_by, All, Option, Some, None, if◌then◌else◌}
+use Rattle.std.specs.Prelude.{◌≡◌, ℕ, ◌+◌, ◌-◌, ◌*◌, ◌/◌, ◌^◌, ◌≤◌, ◌<◌, Bool, true, false, not, find, replicate, List, [], ◌∷◌, ◌++◌, length, take, drop, set, get_or, sum_by, All, Option, Some, None, if◌then◌else◌}
 use Rattle.std.specs.Option.{option_map}
 use Rattle.std.specs.FinMap as fin
-use Rattle.om_mem.specs.Contents.{Contents, holds, numbered, overlap_of}
+use Rattle.om_mem.specs.Contents.{Contents, addresses_from, holds, may_at, numbered, overlap_of}
 use Rattle.om_mem.specs.Pages.{page_count, flag}
 use Rattle.om_mem.specs.declared.region.Region.{Region}
 use Rattle.om_mem.specs.declared.spot.Spot.{Spot}
@@ -27,6 +27,10 @@ place_of (r ∷ rs) address =
     if holds r address
     then Some (address - r.low, r.rights)
     else option_map (λ found. (r.size + found.0, found.1)) (place_of rs address)
+
+-- the first of so many addresses from one on that isn't in a region with each of the rights
+abbrev pub refusing : List Region → (address count rights : ℕ) → Option ℕ
+refusing regions address count rights = find (λ a. not (may_at regions a rights)) (addresses_from address count)
 
 -- the regions end in the address space and are apart, the bytes are as many as they want, and each page has its flag
 pub record IsLaid (regions : List Region) (bytes : List ℕ) (dirty : List Bool) : Type 0 where
@@ -59,6 +63,10 @@ pub record IsHeld (regions : List Region) (bytes : List ℕ) (dirty : List Bool)
 abbrev pub overlaid : List ℕ → ℕ → List ℕ → List ℕ
 overlaid bytes at [] = bytes
 overlaid bytes at (b ∷ new) = overlaid (set bytes at b) (at + 1) new
+
+-- flags of which those from a page on, up to another, are set
+abbrev pub marked : List Bool → (first past : ℕ) → List Bool
+marked dirty first past = take first dirty ++ (replicate (past - first) true ++ drop past dirty)
 
 -- each byte whose page isn't flagged now is as before, and such a page wasn't flagged then
 pub record IsSame (bytes : List ℕ) (dirty : List Bool) (bytes_now : List ℕ) (dirty_now : List Bool) : Type 0 where

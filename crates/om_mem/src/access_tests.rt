@@ -62,6 +62,51 @@ fn an_access_wraps_past_the_last_address(rt: HostRuntime) -> Result<(), Fail> {
 }
 
 #[test]
+fn many_bytes_wrap_past_the_last_address(rt: HostRuntime) -> Result<(), Fail> {
+    let regions = three_regions(rt.alloc())?;
+    let mut memory = map_regions(rt.alloc(), &regions)?;
+    let done = memory.write_bytes(4294967293, &[1, 2, 3, 4, 5, 6, 7]);
+    assert!(rt; done.is_ok());
+    assert_eq!(rt; memory.number(4294967292, 4), Some(0x03020100));
+    assert_eq!(rt; memory.number(0, 4), Some(0x07060504));
+    assert_eq!(rt; memory.pages(), 3);
+    assert!(rt; memory.is_dirty(0) && memory.is_dirty(1) && !memory.is_dirty(2));
+    Ok(())
+}
+
+// (from, count, the first that can't be written, whether all are mapped)
+static ASKED: [(u32, usize, Option<u32>, bool); 9] = [
+    (4095, 1, None, true),
+    (4095, 2, Some(4096), true),
+    (4096, 0, None, true),
+    (8191, 2, Some(8191), false),
+    (8192, 0, None, true),
+    (8192, 1, Some(8192), false),
+    (4294963200, 8192, None, true),
+    (4294963200, 12288, Some(4096), true),
+    (4294963200, 12289, Some(4096), false),
+];
+
+#[test]
+fn many_addresses_are_asked_for(rt: HostRuntime) -> Result<(), Fail> {
+    let regions = three_regions(rt.alloc())?;
+    let memory = map_regions(rt.alloc(), &regions)?;
+    for (from, count, outside, mapped) in &ASKED {
+        assert_eq!(rt;
+            memory.first_outside(*from, *count),
+            *outside,
+            "{count} from {from}"
+        );
+        assert_eq!(rt;
+            memory.is_mapped(*from, *count),
+            *mapped,
+            "{count} from {from}"
+        );
+    }
+    Ok(())
+}
+
+#[test]
 fn rights_are_asked_for_each_byte(rt: HostRuntime) -> Result<(), Fail> {
     let regions = three_regions(rt.alloc())?;
     let mut memory = map_regions(rt.alloc(), &regions)?;

@@ -60,3 +60,28 @@ fn pages_are_zeros_until_they_are_set(rt: HostRuntime) -> Result<(), Fail> {
     assert_eq!(rt; memory.page(1), [9, 8, 7, 6, 5].as_slice());
     Ok(())
 }
+
+#[test]
+fn a_write_goes_on_in_the_next_region(rt: HostRuntime) -> Result<(), Fail> {
+    // The first page ends 3995 bytes into the region of the lower addresses.
+    let regions = two_regions(rt.alloc(), (69536, 101), (65536, 4000))?;
+    let mut memory = map_regions(rt.alloc(), &regions)?;
+    let done = memory.write_bytes(69534, &[1, 2, 3, 4]);
+    assert!(rt; done.is_ok());
+    assert_eq!(rt; memory.number(69533, 4), Some(0x03020100));
+    assert_eq!(rt; memory.number(69536, 4), Some(0x00000403));
+    assert_eq!(rt; memory.pages(), 2);
+    assert_eq!(rt; memory.page(1), [0, 0, 0, 1, 2].as_slice());
+    assert!(rt; memory.is_dirty(0) && memory.is_dirty(1));
+    Ok(())
+}
+
+#[test]
+fn any_count_is_answered_at_once(rt: HostRuntime) -> Result<(), Fail> {
+    let regions = two_regions(rt.alloc(), (0, 33554432), (33554432, 33554432))?;
+    let memory = map_regions(rt.alloc(), &regions)?;
+    assert!(rt; memory.is_mapped(0, 67108864));
+    assert!(rt; !memory.is_mapped(0, 4294967295));
+    assert_eq!(rt; memory.first_outside(0, 4294967295), Some(67108864));
+    Ok(())
+}

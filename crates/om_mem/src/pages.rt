@@ -20,14 +20,12 @@ fn piece(bytes: &[u8], page: u32) -> &[u8]
     &bytes[start..end]
 }
 
-/// Puts bytes in the place of as many from a page's first one on.
-fn put_piece(bytes: &mut [u8], page: u32, new: &[u8])
-    requires { page * 4096 + length new.now ≤ length bytes.old }
-    ensures { bytes.new ≡ take (page * 4096) bytes.old ++ (new.now ++ drop (page * 4096 + length new.now) bytes.old) }
+/// Puts bytes in the place of as many from a place on.
+pub(crate) fn put_at(bytes: &mut [u8], at: usize, new: &[u8])
+    requires { at + length new.now ≤ length bytes.old }
+    ensures { bytes.new ≡ take at bytes.old ++ (new.now ++ drop (at + length new.now) bytes.old) }
 {
-    let first = page as usize * PAGE_SIZE;
-    let past = first + new.len();
-    bytes[first..past].copy_from_slice(new);
+    bytes[at..at + new.len()].copy_from_slice(new);
 }
 
 /// Makes all flags false.
@@ -65,7 +63,7 @@ impl Memory {
         ensures others { (other : ℕ) → other ≢ page → page_in self.new.contents other ≡ page_in self.old.contents other }
         ensures kept { IsKept self.old self.new }
     {
-        put_piece(self.bytes.as_mut_slice(), page, bytes);
+        put_at(self.bytes.as_mut_slice(), page as usize * PAGE_SIZE, bytes);
         self.dirty.as_mut_slice()[page as usize] = true;
     }
 

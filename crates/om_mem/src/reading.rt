@@ -4,8 +4,8 @@ ghost use Rattle.std.specs.Prelude.{◌≡◌, ◌+◌, ◌-◌, ◌*◌, ◌^�
 ghost use Rattle.std.specs.List.{list_all};
 ghost use Rattle.std.specs.FinMap as fin;
 ghost use Rattle.om_base.specs.Numbers.{le};
-ghost use Rattle.om_mem.specs.Contents.{may_at, loaded, fetched, addresses_from, outside};
-ghost use Rattle.om_mem.specs.Laid.{AreMapped, IsSpot, laid, place_of};
+ghost use Rattle.om_mem.specs.Contents.{may_at, loaded, fetched, addresses_from, are_mapped, outside};
+ghost use Rattle.om_mem.specs.Laid.{AreMapped, IsSpot, laid, place_of, refusing};
 
 use crate::memory::Memory;
 use crate::region::Region;
@@ -35,15 +35,39 @@ pub(crate) fn may_be(regions: &[Region], address: u32, rights: u8) -> bool
     spot.rights & rights == rights
 }
 
+/// The first of so many addresses from one on that isn't in a region with each of the rights. Each region
+/// is looked up once.
+pub(crate) fn first_without(
+    regions: &[Region],
+    address: u32,
+    count: usize,
+    rights: u8,
+) -> Option<u32>
+    requires { AreMapped regions.now }
+    ensures { result ≡ refusing regions.now address count rights }
+{
+    let mut at = address;
+    let mut left = count;
+    while left > 0 {
+        let Some(spot) = find_spot(regions, at) else {
+            return Some(at);
+        };
+        if spot.rights & rights != rights {
+            return Some(at);
+        }
+        let piece = spot.count_from(at, left);
+        at = at.wrapping_add(piece as u32);
+        left -= piece;
+    }
+    None
+}
+
 /// Whether each of so many addresses from one on is in a region with the rights.
-fn may_all(regions: &[Region], address: u32, count: u8, rights: u8) -> bool
+fn may_all(regions: &[Region], address: u32, count: usize, rights: u8) -> bool
     requires mapped { AreMapped regions.now }
     ensures { result ≡ list_all (λ a. may_at regions.now a rights) (addresses_from address count) }
 {
-    if count == 0 {
-        return true;
-    }
-    may_be(regions, address, rights) && may_all(regions, address.wrapping_add(1), count - 1, rights)
+    first_without(regions, address, count, rights).is_none()
 }
 
 /// The number of so many bytes from `address` on, looked up one by one.
@@ -192,6 +216,13 @@ impl Memory {
         ensures { result ≡ is_none (outside self.now.contents.regions address count) }
     {
         are_writable(self.regions.as_slice(), address, count)
+    }
+
+    /// Whether a region holds each of `count` addresses from `address` on, whatever its rights.
+    pub fn is_mapped(&self, address: u32, count: usize) -> bool
+        ensures { result ≡ are_mapped self.now.contents.regions address count }
+    {
+        may_all(self.regions.as_slice(), address, count, 0)
     }
 
     /// The little-endian number of 1, 2 or 4 bytes from `address` on; none where a byte of it isn't in a region.

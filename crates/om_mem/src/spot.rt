@@ -1,6 +1,6 @@
 //! Where the bytes of an address lie.
 
-ghost use Rattle.std.specs.Prelude.{◌≡◌, ◌+◌, ◌-◌, ◌^◌, ◌≤◌, ◌<◌, nat_le, ◌&&◌, sum_by, IfSome, MatchOption, None, List, true};
+ghost use Rattle.std.specs.Prelude.{◌≡◌, ◌+◌, ◌-◌, ◌^◌, ◌≤◌, ◌<◌, nat_le, ◌&&◌, min, sum_by, IfSome, MatchOption, None, List, true};
 ghost use Rattle.om_mem.specs.declared.region.Region.{Region};
 ghost use Rattle.om_mem.specs.Laid.{AreMapped, IsSpot, place_of};
 
@@ -38,6 +38,15 @@ impl Spot {
     {
         self.low <= address
             && u64::from(address - self.low) + u64::from(count) <= u64::from(self.size)
+    }
+
+    /// How many of so many addresses from one of these on come before the end of these.
+    pub(crate) fn count_from(&self, address: u32, count: usize) -> usize
+        requires low { self.now.low ≤ address }
+        requires high { address < self.now.low + self.now.size }
+        ensures { result ≡ min count (self.now.low + self.now.size - address) }
+    {
+        count.min((self.size - (address - self.low)) as usize)
     }
 }
 

@@ -1,14 +1,13 @@
 //! Writing into memory.
 
 ghost use Rattle.std.specs.Prelude.{◌≡◌, ◌+◌, ◌-◌, ◌*◌, ◌/◌, ◌^◌, ◌≤◌, ◌<◌, ◌⊎◌, length, take, drop, set, sum_by, true, false, is_none, None, Some, if◌then◌else◌, OnOk, OnErr, IfErr};
-ghost use Rattle.std.specs.FinMap as fin;
-ghost use Rattle.om_mem.specs.Contents.{addresses_from, after_write, low_bytes, may_at, outside, region_in, stored};
-ghost use Rattle.om_mem.specs.Laid.{AreMapped, IsSame, IsSpot, laid, overlaid};
+ghost use Rattle.om_mem.specs.Contents.{addresses_from, after_write, low_bytes, outside, region_in, stored};
+ghost use Rattle.om_mem.specs.Laid.{AreMapped, IsSame, IsSpot, laid, marked, overlaid};
 ghost use Rattle.om_mem.specs.Pages.{IsKept, page_count};
 
 use crate::memory::Memory;
-use crate::pages::PAGE_SIZE;
-use crate::reading::may_be;
+use crate::pages::{PAGE_SIZE, put_at};
+use crate::reading::first_without;
 use crate::region::Region;
 use crate::spot::{Spot, find_near, find_spot};
 
@@ -20,56 +19,12 @@ pub struct WriteOutside {
 }
 
 /// The first of so many addresses from one on that isn't in a region with the right to write.
+#[tactic(auto, unfolding(crate::specs::Contents::outside))]
 pub(crate) fn first_outside(regions: &[Region], address: u32, count: usize) -> Option<u32>
     requires { AreMapped regions.now }
     ensures { result ≡ outside regions.now address count }
 {
-    let mut at = address;
-    for _ in 0..count {
-        if !may_be(regions, at, 2) {
-            return Some(at);
-        }
-        at = at.wrapping_add(1);
-    }
-    None
-}
-
-/// Writes a byte where a region holds the address, and nothing elsewhere.
-fn put_byte(regions: &[Region], bytes: &mut [u8], dirty: &mut [bool], address: u32, byte: u8)
-    requires mapped { AreMapped regions.now }
-    requires whole { length bytes.old ≡ sum_by (λ r. r.size) regions.now }
-    requires flags { length dirty.old ≡ page_count regions.now }
-    ensures stored { may_at regions.now address 2 ≡ true →
-        (laid regions.now bytes.new).bytes ≡ fin.insert (laid regions.now bytes.old).bytes address byte }
-    ensures whole { length bytes.new ≡ length bytes.old }
-    ensures flags { length dirty.new ≡ length dirty.old }
-    ensures same { IsSame bytes.old dirty.old bytes.new dirty.new }
-{
-    let Some(spot) = find_spot(regions, address) else {
-        return;
-    };
-    let at = spot.at + (address - spot.low) as usize;
-    bytes[at] = byte;
-    dirty[at / PAGE_SIZE] = true;
-}
-
-/// Writes bytes from `address` on, each of which may be written.
-fn put_across(regions: &[Region], bytes: &mut [u8], dirty: &mut [bool], address: u32, new: &[u8])
-    requires mapped { AreMapped regions.now }
-    requires whole { length bytes.old ≡ sum_by (λ r. r.size) regions.now }
-    requires flags { length dirty.old ≡ page_count regions.now }
-    requires inside { outside regions.now address (length new.now) ≡ None }
-    ensures stored { (laid regions.now bytes.new).bytes
-        ≡ stored (laid regions.now bytes.old).bytes (addresses_from address (length new.now)) new.now }
-    ensures whole { length bytes.new ≡ length bytes.old }
-    ensures flags { length dirty.new ≡ length dirty.old }
-    ensures same { IsSame bytes.old dirty.old bytes.new dirty.new }
-{
-    let mut at = address;
-    for byte in new {
-        put_byte(regions, bytes, dirty, at, *byte);
-        at = at.wrapping_add(1);
-    }
+    first_without(regions, address, count, 2)
 }
 
 /// Writes the low bytes of a number from a place on.
@@ -103,7 +58,61 @@ fn mark(dirty: &mut [bool], at: usize, count: u8)
     dirty[(at + usize::from(count) - 1) / PAGE_SIZE] = true;
 }
 
-/// Writes the low bytes of a number from `address` on, looked up one by one, if each may be written.
+/// The pages of so many bytes from a place on count as written.
+fn mark_all(dirty: &mut [bool], at: usize, count: usize)
+    requires fits { at + count ≤ 4096 * length dirty.old }
+    requires small { at + count ≤ 67108864 }
+    ensures { dirty.new ≡ marked dirty.old (at / 4096) ((at + count + 4095) / 4096) }
+{
+    let first = at / PAGE_SIZE;
+    let past = (at + count + (PAGE_SIZE - 1)) / PAGE_SIZE;
+    dirty[first..past].fill(true);
+}
+
+/// Writes bytes from a place on.
+fn put_from(bytes: &mut [u8], dirty: &mut [bool], at: usize, new: &[u8])
+    requires fits { at + length new.now ≤ length bytes.old }
+    requires flags { length bytes.old ≤ 4096 * length dirty.old }
+    requires small { length bytes.old ≤ 67108864 }
+    ensures bytes { bytes.new ≡ overlaid bytes.old at new.now }
+    ensures flags { length dirty.new ≡ length dirty.old }
+    ensures same { IsSame bytes.old dirty.old bytes.new dirty.new }
+{
+    if new.is_empty() {
+        return;
+    }
+    put_at(bytes, at, new);
+    mark_all(dirty, at, new.len());
+}
+
+/// Writes bytes from `address` on, each of which may be written, with one copy into each region.
+fn put_across(regions: &[Region], bytes: &mut [u8], dirty: &mut [bool], address: u32, new: &[u8])
+    requires mapped { AreMapped regions.now }
+    requires whole { length bytes.old ≡ sum_by (λ r. r.size) regions.now }
+    requires flags { length dirty.old ≡ page_count regions.now }
+    requires inside { outside regions.now address (length new.now) ≡ None }
+    ensures stored { (laid regions.now bytes.new).bytes
+        ≡ stored (laid regions.now bytes.old).bytes (addresses_from address (length new.now)) new.now }
+    ensures whole { length bytes.new ≡ length bytes.old }
+    ensures flags { length dirty.new ≡ length dirty.old }
+    ensures same { IsSame bytes.old dirty.old bytes.new dirty.new }
+{
+    let mut at = address;
+    let mut rest = new;
+    while !rest.is_empty() {
+        // A region holds the address, since it may be written.
+        let Some(spot) = find_spot(regions, at) else {
+            return;
+        };
+        let count = spot.count_from(at, rest.len());
+        let place = spot.at + (at - spot.low) as usize;
+        put_from(bytes, dirty, place, &rest[..count]);
+        at = at.wrapping_add(count as u32);
+        rest = &rest[count..];
+    }
+}
+
+/// Writes the low bytes of a number from `address` on, in whatever regions, if each may be written.
 #[cold]
 fn write_across(
     regions: &[Region],
@@ -214,22 +223,6 @@ fn start_of(regions: &[Region], region: u32) -> usize
     before
 }
 
-/// Writes bytes from a place on.
-fn put_from(bytes: &mut [u8], dirty: &mut [bool], at: usize, new: &[u8])
-    requires fits { at + length new.now ≤ length bytes.old }
-    requires flags { length bytes.old ≤ 4096 * length dirty.old }
-    ensures bytes { bytes.new ≡ overlaid bytes.old at new.now }
-    ensures flags { length dirty.new ≡ length dirty.old }
-    ensures same { IsSame bytes.old dirty.old bytes.new dirty.new }
-{
-    let mut place = at;
-    for byte in new {
-        bytes[place] = *byte;
-        dirty[place / PAGE_SIZE] = true;
-        place += 1;
-    }
-}
-
 impl Memory {
     /// Writes the low `count` bytes of `value` from `address` on, the lowest first. False, and nothing is
     /// written, where a byte isn't in a region with the right to write.
@@ -275,6 +268,14 @@ impl Memory {
             count,
             value,
         )
+    }
+
+    /// The first of `count` addresses from `address` on that isn't in a region with the right to write.
+    #[tactic(auto, unfolding(crate::specs::Laid::laid))]
+    pub fn first_outside(&self, address: u32, count: usize) -> Option<u32>
+        ensures { result ≡ outside self.now.contents.regions address count }
+    {
+        first_outside(self.regions.as_slice(), address, count)
     }
 
     /// Writes the bytes from `address` on.
