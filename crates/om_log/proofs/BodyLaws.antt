@@ -5,7 +5,6 @@ use Rattle.std.specs.List.{slice_get}
 use Rattle.std.proofs.lemmas.List.{append-nil, length-append}
 use Rattle.om_log.specs.Faults.{IsHeaderFault, IsKind, IsRefused, IsStop, IsBodyFault}
 use Rattle.om_log.specs.Fields.{number}
-use Rattle.om_log.specs.Gate.{IsUnbuilt, AreBuilt}
 use Rattle.om_log.specs.Grammar.{spelling, spellings, header, HasCause, step_of, next_of, IsEnd, MayStand, AreLawful, HasEnd, next_after}
 use Rattle.om_log.specs.Reading.{entry_field, start_field}
 use Rattle.om_log.specs.Regions.{FitsStart, IsLawfulStart}
@@ -13,71 +12,61 @@ use Rattle.om_log.specs.Steps.{IsHeader, IsFirst, IsBody}
 use Rattle.om_log.specs.declared.entry.Entry.{Entry}
 use Rattle.om_log.specs.declared.entry.Entry.TheVariants.{Call, Mark, End}
 use Rattle.om_log.specs.declared.fault.LogFault.{LogFault}
-use Rattle.om_log.specs.declared.fault.LogFault.TheVariants.{Short, Kind, Order, NoEnd, Trailing, Region, Unbuilt}
+use Rattle.om_log.specs.declared.fault.LogFault.TheVariants.{Short, Kind, Order, NoEnd, Trailing, Region}
 use Rattle.om_log.specs.declared.start.Start.{Start}
 use Rattle.om_log.proofs.FieldLaws.{IsBytes, IsBytes-drop, IsSized, number_sized, both_sized, mapped_sized, none_in_front}
 use Rattle.om_log.proofs.EntryLaws.{entry_law, start_law, start_spelling}
-use Rattle.om_log.proofs.GateLaws.{passes_built}
-use Rattle.om_log.proofs.LogLaws.{lawful_more, runs_more, ends_more, next_more, built_more, spellings_more}
+use Rattle.om_log.proofs.LogLaws.{lawful_more, runs_more, ends_more, next_more, spellings_more}
 
 -- ---- one entry
 
-pub refused_unbuilt : (least at : ℕ) (rest : List ℕ) → IsUnbuilt rest → IsRefused least at rest (Unbuilt at)
+pub refused_end : (least at : ℕ) (rest : List ℕ) → slice_get rest 0 ≡ None → IsRefused least at rest NoEnd
 unfolding IsRefused
-refused_unbuilt least at rest h = inl (h, refl)
+refused_end least at [] h = inl refl
+refused_end least at (kind ∷ rest) h = absurd cc
 
-pub refused_end : (least at : ℕ) (rest : List ℕ) → (IsUnbuilt rest → ⊥) → slice_get rest 0 ≡ None → IsRefused least at rest NoEnd
+pub refused_kind : (least at : ℕ) (rest : List ℕ) (kind : ℕ) → slice_get rest 0 ≡ Some kind → (IsKind kind → ⊥) → IsRefused least at rest (Kind at)
 unfolding IsRefused
-refused_end least at [] passes h = inr (passes, inl refl)
-refused_end least at (kind ∷ rest) passes h = absurd cc
+refused_kind least at [] kind h none = absurd cc
+refused_kind least at (first ∷ rest) kind h none = let is : first ≡ kind = cc in inl (inl (subst (λ k. IsKind k → ⊥) (sym is) none, refl))
 
-pub refused_kind : (least at : ℕ) (rest : List ℕ) (kind : ℕ) → (IsUnbuilt rest → ⊥) → slice_get rest 0 ≡ Some kind → (IsKind kind → ⊥) → IsRefused least at rest (Kind at)
+pub refused_short : (least at : ℕ) (rest : List ℕ) (kind : ℕ) → slice_get rest 0 ≡ Some kind → IsKind kind → entry_field rest ≡ None → IsRefused least at rest (Short at)
 unfolding IsRefused
-refused_kind least at [] kind passes h none = absurd cc
-refused_kind least at (first ∷ rest) kind passes h none = let is : first ≡ kind = cc in inr (passes, inl (inl (subst (λ k. IsKind k → ⊥) (sym is) none, refl)))
-
-pub refused_short : (least at : ℕ) (rest : List ℕ) (kind : ℕ) → (IsUnbuilt rest → ⊥) → slice_get rest 0 ≡ Some kind → IsKind kind → entry_field rest ≡ None → IsRefused least at rest (Short at)
-unfolding IsRefused
-refused_short least at [] kind passes h is_kind e = absurd cc
-refused_short least at (first ∷ rest) kind passes h is_kind e =
+refused_short least at [] kind h is_kind e = absurd cc
+refused_short least at (first ∷ rest) kind h is_kind e =
     let is : first ≡ kind = cc in
-    inr (passes, inl (inr (inl (subst IsKind (sym is) is_kind, (λ entry tail fits same. none_in_front entry_law (first ∷ rest) e entry tail fits same), refl))))
+    inl (inr (inl (subst IsKind (sym is) is_kind, (λ entry tail fits same. none_in_front entry_law (first ∷ rest) e entry tail fits same), refl)))
 
-pub refused_cause : (least at : ℕ) (rest : List ℕ) (e : Entry) (tail : List ℕ) → IsBytes rest → (IsUnbuilt rest → ⊥) → entry_field rest ≡ Some (e, tail) → (HasCause e → ⊥) → IsRefused least at rest (Kind at)
+pub refused_cause : (least at : ℕ) (rest : List ℕ) (e : Entry) (tail : List ℕ) → IsBytes rest → entry_field rest ≡ Some (e, tail) → (HasCause e → ⊥) → IsRefused least at rest (Kind at)
 unfolding IsRefused entry_field
-refused_cause least at [] e tail bytes passes taken none = absurd cc
-refused_cause least at (kind ∷ rest) e tail bytes passes taken none =
+refused_cause least at [] e tail bytes taken none = absurd cc
+refused_cause least at (kind ∷ rest) e tail bytes taken none =
     let p = entry_law.takes (kind ∷ rest) (e, tail) bytes taken in
-    inr (passes, inl (inr (inr (record { entry = e; tail = tail; fits = p.1; spelled = p.0; causeless = none }, refl))))
+    inl (inr (inr (record { entry = e; tail = tail; fits = p.1; spelled = p.0; causeless = none }, refl)))
 
-pub refused_order : (least at : ℕ) (rest : List ℕ) (e : Entry) (tail : List ℕ) → IsBytes rest → (IsUnbuilt rest → ⊥) → entry_field rest ≡ Some (e, tail) → HasCause e → step_of e < least → IsRefused least at rest (Order at)
+pub refused_order : (least at : ℕ) (rest : List ℕ) (e : Entry) (tail : List ℕ) → IsBytes rest → entry_field rest ≡ Some (e, tail) → HasCause e → step_of e < least → IsRefused least at rest (Order at)
 unfolding IsRefused
-refused_order least at rest e tail bytes passes taken cause early =
+refused_order least at rest e tail bytes taken cause early =
     let p = entry_law.takes rest (e, tail) bytes taken in
-    inr (passes, inr (record { entry = e; tail = tail; fits = p.1; cause = cause; spelled = p.0; early = early }, refl))
+    inr (record { entry = e; tail = tail; fits = p.1; cause = cause; spelled = p.0; early = early }, refl)
 
-pub first_is : (least : ℕ) (rest : List ℕ) (e : Entry) (tail : List ℕ) → IsBytes rest → (IsUnbuilt rest → ⊥) → entry_field rest ≡ Some (e, tail) → HasCause e → least ≤ step_of e → IsFirst least rest e tail
-first_is least rest e tail bytes passes taken cause late =
+pub first_is : (least : ℕ) (rest : List ℕ) (e : Entry) (tail : List ℕ) → IsBytes rest → entry_field rest ≡ Some (e, tail) → HasCause e → least ≤ step_of e → IsFirst least rest e tail
+first_is least rest e tail bytes taken cause late =
     let p = entry_law.takes rest (e, tail) bytes taken in
-    record {
-      stand = record { fits = p.1; cause = cause; step = late };
-      built = passes_built e tail p.1 (subst (λ r. IsUnbuilt r → ⊥) p.0 passes);
-      spelled = p.0;
-    }
+    record { stand = record { fits = p.1; cause = cause; step = late }; spelled = p.0 }
 
 -- ---- the entries so far
 
 -- the reader stands here: these entries are read, this is left, no step below this one may follow, and END was met or not
 pub record IsAt (body : List ℕ) (entries : List Entry) (rest : List ℕ) (least : ℕ) (ended : Bool) : Type 0 where
   pub lawful : AreLawful 0 entries
-  pub built : AreBuilt entries
   pub spelled : body ≡ spellings entries ++ rest
   pub next : least ≡ next_after 0 entries
   pub flag : IsTrue ended ↔ HasEnd entries
 
 pub starts : (body : List ℕ) → IsAt body [] body 0 false
-unfolding AreLawful AreBuilt spellings next_after HasEnd
-starts body = record { lawful = tt; built = tt; spelled = refl; next = refl; flag = (λ h. cc, λ h. absurd h) }
+unfolding AreLawful spellings next_after HasEnd
+starts body = record { lawful = tt; spelled = refl; next = refl; flag = (λ h. cc, λ h. absurd h) }
 
 runs : (ended : Bool) (entries : List Entry) → IsTrue ended ↔ HasEnd entries → ended ≡ false → HasEnd entries → ⊥
 runs ended entries flag not_yet h = let now = flag.1 h in cc
@@ -91,7 +80,6 @@ goes_on body entries rest least ended e tail end here not_yet first flag =
     let running = runs ended entries here.flag not_yet in
     record {
       lawful = lawful_more 0 entries e here.lawful running (subst (λ n. MayStand n e) here.next first.stand);
-      built = built_more entries e here.built first.built;
       spelled = here.spelled ∙ ap (λ (x : List ℕ). spellings entries ++ x) first.spelled ∙ spellings_more entries e tail;
       next = sym (next_more 0 entries e);
       flag = (λ h. ends_more entries e (flag.0 h), λ h. flag_back end entries e running flag h);
@@ -119,7 +107,6 @@ stops len body entries rest least ended fault here not_yet refused =
       entries = entries;
       rest = rest;
       lawful = here.lawful;
-      built = here.built;
       spelled = here.spelled;
       stop = inl (runs ended entries here.flag not_yet, subst (λ n. IsRefused n (len - length rest) rest fault) here.next refused);
     }
@@ -131,7 +118,6 @@ trails len body entries rest least ended here over some =
       entries = entries;
       rest = rest;
       lawful = here.lawful;
-      built = here.built;
       spelled = here.spelled;
       stop = inr (here.flag.0 over, some, refl);
     }
@@ -141,7 +127,6 @@ is_body body entries rest least ended here over none =
     record {
       lawful = here.lawful;
       ended = here.flag.0 over;
-      built = here.built;
       spelled = here.spelled ∙ ap (λ (x : List ℕ). spellings entries ++ x) none ∙ append-nil (spellings entries);
     }
 

@@ -2,7 +2,6 @@
 use Rattle.std.proofs.Common.{◌≡◌, ℕ, suc, ◌-◌, ◌≤◌, List, [], ◌∷◌, ◌++◌, length, take, slice_index, refl, sym, ap, subst, ◌∙◌, append_assoc, arith, inl, inr, ◌⊎◌}
 use Rattle.std.proofs.lemmas.List.{append-nil, length-append}
 use Rattle.om_log.specs.Faults.{IsHeaderFault, IsKind, IsNoEntry, IsRefused, IsStop, IsBodyFault, IsFault}
-use Rattle.om_log.specs.Gate.{IsUnbuilt, IsBuilt, AreBuilt}
 use Rattle.om_log.specs.Grammar.{spelling, spellings, header, Fits, HasCause, step_of, next_of, IsEnd, MayStand, AreLawful, HasEnd, next_after, IsLog}
 use Rattle.om_log.specs.LittleEndian.{le_bytes}
 use Rattle.om_log.specs.Regions.{FitsStart, IsLawfulStart}
@@ -13,7 +12,6 @@ use Rattle.om_log.specs.declared.log.Log.{Log}
 use Rattle.om_log.specs.declared.start.Start.{Start}
 use Rattle.om_log.proofs.FieldLaws.{one_front, length-le_bytes}
 use Rattle.om_log.proofs.EntryLaws.{entry_law, one_header}
-use Rattle.om_log.proofs.GateLaws.{built_passes}
 
 -- ---- one more entry
 
@@ -40,11 +38,6 @@ unfolding next_after
 next_more least [] e = refl
 next_more least (x ∷ xs) e = next_more (next_of x) xs e
 
-pub built_more : (es : List Entry) (e : Entry) → AreBuilt es → IsBuilt e → AreBuilt (es ++ e ∷ [])
-unfolding AreBuilt
-built_more [] e all built = (built, tt)
-built_more (x ∷ xs) e all built = (all.0, built_more xs e all.1 built)
-
 pub spellings_more : (es : List Entry) (e : Entry) (tail : List ℕ) → spellings es ++ (spelling e ++ tail) ≡ spellings (es ++ e ∷ []) ++ tail
 unfolding spellings
 spellings_more [] e tail = ap (λ (x : List ℕ). x ++ tail) (sym (append-nil (spelling e)))
@@ -68,11 +61,6 @@ unfolding AreLawful HasEnd
 none_behind least [] more lawful ended = absurd ended
 none_behind least (e ∷ es) more lawful (inl end) = empty_behind es more (lawful.1 end)
 none_behind least (e ∷ es) more lawful (inr ended) = none_behind (next_of e) es more lawful.2 ended
-
-pub built_behind : (es more : List Entry) → AreBuilt (es ++ more) → AreBuilt more
-unfolding AreBuilt
-built_behind [] more built = built
-built_behind (e ∷ es) more built = built_behind es more built.1
 
 -- the first list of entries is a front of the second, and what stands behind it is spelled so
 pub record IsFront (es fs : List Entry) (r t : List ℕ) : Type 0 where
@@ -120,11 +108,10 @@ entry_there at (kind ∷ rest) fault e tail same fits cause (inr (inr h)) =
     h.0.causeless (subst HasCause one.0 cause)
 
 -- an entry that may stand isn't refused
-not_refused : (least at : ℕ) (rest : List ℕ) (fault : LogFault) (e : Entry) (tail : List ℕ) → rest ≡ spelling e ++ tail → MayStand least e → IsBuilt e → IsRefused least at rest fault → ⊥
+not_refused : (least at : ℕ) (rest : List ℕ) (fault : LogFault) (e : Entry) (tail : List ℕ) → rest ≡ spelling e ++ tail → MayStand least e → IsRefused least at rest fault → ⊥
 unfolding IsRefused
-not_refused least at rest fault e tail same stand built (inl h) = built_passes e tail stand.fits built (subst IsUnbuilt same h.0)
-not_refused least at rest fault e tail same stand built (inr (passes, inl h)) = entry_there at rest fault e tail same stand.fits stand.cause h
-not_refused least at rest fault e tail same stand built (inr (passes, inr h)) =
+not_refused least at rest fault e tail same stand (inl h) = entry_there at rest fault e tail same stand.fits stand.cause h
+not_refused least at rest fault e tail same stand (inr h) =
     let one = one_front entry_law e h.0.entry tail h.0.tail stand.fits h.0.fits (sym same ∙ h.0.spelled) in
     omega (arith, h.0.early, stand.step, ap step_of one.0)
 
@@ -142,13 +129,10 @@ one_no_entry at (kind ∷ rest) f g (inr (inr a)) (inr (inr b)) = a.1 ∙ sym b.
 
 one_refusal : (least at : ℕ) (rest : List ℕ) (f g : LogFault) → IsRefused least at rest f → IsRefused least at rest g → f ≡ g
 unfolding IsRefused
-one_refusal least at rest f g (inl a) (inl b) = a.1 ∙ sym b.1
-one_refusal least at rest f g (inl a) (inr b) = absurd (b.0 a.0)
-one_refusal least at rest f g (inr a) (inl b) = absurd (a.0 b.0)
-one_refusal least at rest f g (inr (p, inl a)) (inr (q, inl b)) = one_no_entry at rest f g a b
-one_refusal least at rest f g (inr (p, inl a)) (inr (q, inr b)) = absurd (entry_there at rest f b.0.entry b.0.tail b.0.spelled b.0.fits b.0.cause a)
-one_refusal least at rest f g (inr (p, inr a)) (inr (q, inl b)) = absurd (entry_there at rest g a.0.entry a.0.tail a.0.spelled a.0.fits a.0.cause b)
-one_refusal least at rest f g (inr (p, inr a)) (inr (q, inr b)) = a.1 ∙ sym b.1
+one_refusal least at rest f g (inl a) (inl b) = one_no_entry at rest f g a b
+one_refusal least at rest f g (inl a) (inr b) = absurd (entry_there at rest f b.0.entry b.0.tail b.0.spelled b.0.fits b.0.cause a)
+one_refusal least at rest f g (inr a) (inl b) = absurd (entry_there at rest g a.0.entry a.0.tail a.0.spelled a.0.fits a.0.cause b)
+one_refusal least at rest f g (inr a) (inr b) = a.1 ∙ sym b.1
 
 one_stop : (es : List Entry) (at : ℕ) (rest : List ℕ) (f g : LogFault) → IsStop es at rest f → IsStop es at rest g → f ≡ g
 unfolding IsStop
@@ -158,13 +142,12 @@ one_stop es at rest f g (inr a) (inl b) = absurd (b.0 a.0)
 one_stop es at rest f g (inr a) (inr b) = a.2 ∙ sym b.2
 
 -- lawful entries don't stop in front of more of them
-no_stop : (es : List Entry) (e : Entry) (more : List Entry) (at : ℕ) (rest t : List ℕ) (fault : LogFault) → AreLawful 0 (es ++ e ∷ more) → AreBuilt (es ++ e ∷ more) → rest ≡ spellings (e ∷ more) ++ t → IsStop es at rest fault → ⊥
-unfolding IsStop AreLawful AreBuilt spellings
-no_stop es e more at rest t fault lawful built same (inl h) =
+no_stop : (es : List Entry) (e : Entry) (more : List Entry) (at : ℕ) (rest t : List ℕ) (fault : LogFault) → AreLawful 0 (es ++ e ∷ more) → rest ≡ spellings (e ∷ more) ++ t → IsStop es at rest fault → ⊥
+unfolding IsStop AreLawful spellings
+no_stop es e more at rest t fault lawful same (inl h) =
     let stand = (lawful_behind 0 es (e ∷ more) lawful).0 in
-    let read = (built_behind es (e ∷ more) built).0 in
-    not_refused (next_after 0 es) at rest fault e (spellings more ++ t) (same ∙ append_assoc (spelling e) (spellings more) t) stand read h.1
-no_stop es e more at rest t fault lawful built same (inr h) = let none = none_behind 0 es (e ∷ more) lawful h.0 in cc
+    not_refused (next_after 0 es) at rest fault e (spellings more ++ t) (same ∙ append_assoc (spelling e) (spellings more) t) stand h.1
+no_stop es e more at rest t fault lawful same (inr h) = let none = none_behind 0 es (e ∷ more) lawful h.0 in cc
 
 -- ---- bodies
 
@@ -180,7 +163,7 @@ fault_by_more len body f g p q [] longer behind =
     let moved : IsStop q.entries (len - length q.rest) q.rest f = subst (λ r. P q.entries r) same.1 (subst (λ es. P es p.rest) same.0 p.stop) in
     one_stop q.entries (len - length q.rest) q.rest f g moved q.stop
 fault_by_more len body f g p q (e ∷ more) longer behind =
-    absurd (no_stop p.entries e more (len - length p.rest) p.rest q.rest f (subst (AreLawful 0) longer q.lawful) (subst AreBuilt longer q.built) behind p.stop)
+    absurd (no_stop p.entries e more (len - length p.rest) p.rest q.rest f (subst (AreLawful 0) longer q.lawful) behind p.stop)
 
 pub one_body_fault : (len : ℕ) (body : List ℕ) (f g : LogFault) → IsBodyFault len body f → IsBodyFault len body g → f ≡ g
 one_body_fault len body f g p q =
@@ -195,22 +178,22 @@ unfolding IsStop
 at_end es at rest fault ended none (inl h) = h.0 ended
 at_end es at rest fault ended none (inr h) = h.1 (sym none)
 
-longer_stops : (len : ℕ) (es : List Entry) (f : LogFault) → AreLawful 0 es → HasEnd es → AreBuilt es → (p : IsBodyFault len (spellings es) f) (more : List Entry) → es ≡ p.entries ++ more → p.rest ≡ spellings more ++ [] → ⊥
-longer_stops len es f lawful ended built p [] longer behind =
+longer_stops : (len : ℕ) (es : List Entry) (f : LogFault) → AreLawful 0 es → HasEnd es → (p : IsBodyFault len (spellings es) f) (more : List Entry) → es ≡ p.entries ++ more → p.rest ≡ spellings more ++ [] → ⊥
+longer_stops len es f lawful ended p [] longer behind =
     let same = same_rest p.entries es p.rest [] [] longer behind refl in
     at_end p.entries (len - length p.rest) p.rest f (subst HasEnd (sym same.0) ended) (sym same.1) p.stop
-longer_stops len es f lawful ended built p (e ∷ more) longer behind =
-    no_stop p.entries e more (len - length p.rest) p.rest [] f (subst (AreLawful 0) longer lawful) (subst AreBuilt longer built) behind p.stop
+longer_stops len es f lawful ended p (e ∷ more) longer behind =
+    no_stop p.entries e more (len - length p.rest) p.rest [] f (subst (AreLawful 0) longer lawful) behind p.stop
 
 -- a whole list of entries has no fault
-pub no_body_fault : (len : ℕ) (es : List Entry) (f : LogFault) → AreLawful 0 es → HasEnd es → AreBuilt es → IsBodyFault len (spellings es) f → ⊥
-no_body_fault len es f lawful ended built p =
+pub no_body_fault : (len : ℕ) (es : List Entry) (f : LogFault) → AreLawful 0 es → HasEnd es → IsBodyFault len (spellings es) f → ⊥
+no_body_fault len es f lawful ended p =
     elim (same_front 0 0 es p.entries [] p.rest lawful p.lawful (append-nil (spellings es) ∙ p.spelled)) [
       | inl front ↦
           (let none = none_behind 0 es front.more (subst (AreLawful 0) front.longer p.lawful) ended in
           let same = same_rest es p.entries [] p.rest front.more front.longer front.behind none in
           at_end p.entries (len - length p.rest) p.rest f (subst HasEnd same.0 ended) same.1 p.stop)
-      | inr front ↦ longer_stops len es f lawful ended built p front.more front.longer front.behind
+      | inr front ↦ longer_stops len es f lawful ended p front.more front.longer front.behind
     ]
 
 no_more : (more : List Entry) → [] ≡ spellings more ++ [] → more ≡ []
@@ -226,16 +209,16 @@ one_list n m es fs le lf same =
       | inr front ↦ sym (same_rest fs es [] [] front.more front.longer front.behind (no_more front.more front.behind)).0
     ]
 
-longer_by : (len : ℕ) (body : List ℕ) (f : LogFault) (p : IsBodyFault len body f) (es : List Entry) (rest : List ℕ) → AreLawful 0 es → AreBuilt es → (more : List Entry) → es ≡ p.entries ++ more → p.rest ≡ spellings more ++ rest → (others : List Entry) × (p.entries ≡ es ++ others)
-longer_by len body f p es rest lawful built [] longer behind = ([], sym (append-nil es ∙ longer ∙ append-nil p.entries))
-longer_by len body f p es rest lawful built (e ∷ more) longer behind =
-    absurd (no_stop p.entries e more (len - length p.rest) p.rest rest f (subst (AreLawful 0) longer lawful) (subst AreBuilt longer built) behind p.stop)
+longer_by : (len : ℕ) (body : List ℕ) (f : LogFault) (p : IsBodyFault len body f) (es : List Entry) (rest : List ℕ) → AreLawful 0 es → (more : List Entry) → es ≡ p.entries ++ more → p.rest ≡ spellings more ++ rest → (others : List Entry) × (p.entries ≡ es ++ others)
+longer_by len body f p es rest lawful [] longer behind = ([], sym (append-nil es ∙ longer ∙ append-nil p.entries))
+longer_by len body f p es rest lawful (e ∷ more) longer behind =
+    absurd (no_stop p.entries e more (len - length p.rest) p.rest rest f (subst (AreLawful 0) longer lawful) behind p.stop)
 
 -- the entries before a fault go on behind every other lawful list in front of the body
-pub longest_list : (len : ℕ) (body : List ℕ) (f : LogFault) (p : IsBodyFault len body f) (es : List Entry) (rest : List ℕ) → AreLawful 0 es → AreBuilt es → body ≡ spellings es ++ rest → (more : List Entry) × (p.entries ≡ es ++ more)
-longest_list len body f p es rest lawful built same =
+pub longest_list : (len : ℕ) (body : List ℕ) (f : LogFault) (p : IsBodyFault len body f) (es : List Entry) (rest : List ℕ) → AreLawful 0 es → body ≡ spellings es ++ rest → (more : List Entry) × (p.entries ≡ es ++ more)
+longest_list len body f p es rest lawful same =
     elim (same_front 0 0 p.entries es p.rest rest p.lawful lawful (sym p.spelled ∙ same)) [
-      | inl front ↦ longer_by len body f p es rest lawful built front.more front.longer front.behind
+      | inl front ↦ longer_by len body f p es rest lawful front.more front.longer front.behind
       | inr front ↦ (front.more, front.longer)
     ]
 
@@ -326,4 +309,4 @@ pub no_fault : (file : List ℕ) (log : Log) (f : LogFault) → IsLog file log �
 no_fault file log f p (inl h) = no_header_fault file f log.start (spellings log.entries) p.lawful.fits p.lawful.start p.spelled h
 no_fault file log f p (inr h) =
     let one = one_header h.start log.start h.body (spellings log.entries) h.fits p.lawful.fits (sym h.spelled ∙ p.spelled) in
-    no_body_fault (length file) log.entries f p.lawful.entries p.lawful.ended p.built (subst (λ body. IsBodyFault (length file) body f) one.1 h.stops)
+    no_body_fault (length file) log.entries f p.lawful.entries p.lawful.ended (subst (λ body. IsBodyFault (length file) body f) one.1 h.stops)

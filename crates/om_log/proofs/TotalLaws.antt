@@ -3,20 +3,18 @@ use Rattle.std.proofs.Common.{◌≡◌, ℕ, zero, suc, ◌+◌, ◌-◌, ◌%�
 use Rattle.std.proofs.lemmas.Bool.{cases_eq, cases_lt}
 use Rattle.std.proofs.lemmas.List.{length-drop}
 use Rattle.om_log.specs.Faults.{IsHeaderFault, IsKind, IsRefused, IsBodyFault, IsFault}
-use Rattle.om_log.specs.Gate.{IsUnbuilt}
 use Rattle.om_log.specs.Grammar.{header, HasCause, step_of, next_of, IsEnd, IsLog}
 use Rattle.om_log.specs.Reading.{entry_field}
-use Rattle.om_log.specs.Regions.{IsWithin, FitsStart, IsLawfulStart}
+use Rattle.om_log.specs.Regions.{HasRoom, AreApart, FitsStart, IsLawfulStart}
 use Rattle.om_log.specs.Steps.{IsFirst, IsBody}
 use Rattle.om_log.specs.declared.entry.Entry.{Entry}
 use Rattle.om_log.specs.declared.entry.Entry.TheVariants.{Call, Mark, End}
 use Rattle.om_log.specs.declared.fault.LogFault.{LogFault}
-use Rattle.om_log.specs.declared.fault.LogFault.TheVariants.{Short, Magic, Version, Kind, Order, NoEnd, Trailing, Region, Unbuilt}
+use Rattle.om_log.specs.declared.fault.LogFault.TheVariants.{Short, Magic, Version, Kind, Order, NoEnd, Trailing, Region}
 use Rattle.om_log.specs.declared.log.Log.{Log}
 use Rattle.om_log.specs.declared.start.Start.{Start}
 use Rattle.om_log.proofs.FieldLaws.{IsBytes, IsBytes-rest}
-use Rattle.om_log.proofs.GateLaws.{gate_cases}
-use Rattle.om_log.proofs.BodyLaws.{refused_unbuilt, refused_end, refused_kind, refused_short, refused_cause, refused_order, first_is, IsAt, starts, goes_on, shorter, stops, trails, is_body, start_sized, header_is, header_unlawful}
+use Rattle.om_log.proofs.BodyLaws.{refused_end, refused_kind, refused_short, refused_cause, refused_order, first_is, IsAt, starts, goes_on, shorter, stops, trails, is_body, start_sized, header_is, header_unlawful}
 
 -- ---- one entry
 
@@ -46,33 +44,26 @@ end_cases (End step cause value) = inl tt
 abbrev pub Decides : ℕ → ℕ → List ℕ → Type 0
 Decides least at rest = ((x : Entry × List ℕ) × IsFirst least rest x.0 x.1) ⊎ ((f : LogFault) × IsRefused least at rest f)
 
-by_field : (least at kind : ℕ) (rest : List ℕ) (o : Option (Entry × List ℕ)) → IsBytes (kind ∷ rest) → (IsUnbuilt (kind ∷ rest) → ⊥) → IsKind kind → entry_field (kind ∷ rest) ≡ o → Decides least at (kind ∷ rest)
-by_field least at kind rest None bytes passes is_kind e = inr (Short at, refused_short least at (kind ∷ rest) kind passes refl is_kind e)
-by_field least at kind rest (Some x) bytes passes is_kind e =
+by_field : (least at kind : ℕ) (rest : List ℕ) (o : Option (Entry × List ℕ)) → IsBytes (kind ∷ rest) → IsKind kind → entry_field (kind ∷ rest) ≡ o → Decides least at (kind ∷ rest)
+by_field least at kind rest None bytes is_kind e = inr (Short at, refused_short least at (kind ∷ rest) kind refl is_kind e)
+by_field least at kind rest (Some x) bytes is_kind e =
     elim (cause_cases x.0) [
-      | inr none ↦ inr (Kind at, refused_cause least at (kind ∷ rest) x.0 x.1 bytes passes e none)
+      | inr none ↦ inr (Kind at, refused_cause least at (kind ∷ rest) x.0 x.1 bytes e none)
       | inl cause ↦ elim (cases_lt (step_of x.0) least) [
-        | inl early ↦ inr (Order at, refused_order least at (kind ∷ rest) x.0 x.1 bytes passes e cause early)
-        | inr late ↦ inl (x, first_is least (kind ∷ rest) x.0 x.1 bytes passes e cause late)
-      ]
-    ]
-
-by_kind : (least at : ℕ) (rest : List ℕ) → IsBytes rest → (IsUnbuilt rest → ⊥) → Decides least at rest
-by_kind least at [] bytes passes = inr (NoEnd, refused_end least at [] passes refl)
-by_kind least at (kind ∷ rest) bytes passes =
-    elim (cases_lt kind 1) [
-      | inl below ↦ inr (Kind at, refused_kind least at (kind ∷ rest) kind passes refl (λ h. omega (arith, h.0)))
-      | inr low ↦ elim (cases_lt 3 kind) [
-        | inl above ↦ inr (Kind at, refused_kind least at (kind ∷ rest) kind passes refl (λ h. omega (arith, h.1)))
-        | inr high ↦ by_field least at kind rest (entry_field (kind ∷ rest)) bytes passes (low, high) refl
+        | inl early ↦ inr (Order at, refused_order least at (kind ∷ rest) x.0 x.1 bytes e cause early)
+        | inr late ↦ inl (x, first_is least (kind ∷ rest) x.0 x.1 bytes e cause late)
       ]
     ]
 
 entry_or_refused : (least at : ℕ) (rest : List ℕ) → IsBytes rest → Decides least at rest
-entry_or_refused least at rest bytes =
-    elim (gate_cases rest) [
-      | inl held ↦ inr (Unbuilt at, refused_unbuilt least at rest held)
-      | inr passes ↦ by_kind least at rest bytes passes
+entry_or_refused least at [] bytes = inr (NoEnd, refused_end least at [] refl)
+entry_or_refused least at (kind ∷ rest) bytes =
+    elim (cases_lt kind 1) [
+      | inl below ↦ inr (Kind at, refused_kind least at (kind ∷ rest) kind refl (λ h. omega (arith, h.0)))
+      | inr low ↦ elim (cases_lt 3 kind) [
+        | inl above ↦ inr (Kind at, refused_kind least at (kind ∷ rest) kind refl (λ h. omega (arith, h.1)))
+        | inr high ↦ by_field least at kind rest (entry_field (kind ∷ rest)) bytes (low, high) refl
+      ]
     ]
 
 -- ---- the entries
@@ -124,7 +115,7 @@ letters_cases (a ∷ b ∷ c ∷ file) long =
       ]
     ]
 
-apart_cases : (s : Start) → 0 < s.stack_size → ((addr : ℕ) → IsWithin addr s.stack_low s.stack_size → IsWithin addr s.heap_low s.heap_size → ⊥) ⊎ (((addr : ℕ) → IsWithin addr s.stack_low s.stack_size → IsWithin addr s.heap_low s.heap_size → ⊥) → ⊥)
+apart_cases : (s : Start) → 0 < s.stack_size → AreApart s ⊎ (AreApart s → ⊥)
 apart_cases s some =
     elim (cases_lt 0 s.heap_size) [
       | inr none ↦ inl (λ addr a b. omega (arith, a.0, a.1, b.0, b.1))
@@ -140,8 +131,8 @@ apart_cases s some =
       ]
     ]
 
-pub lawful_cases : (s : Start) → IsLawfulStart s ⊎ (IsLawfulStart s → ⊥)
-lawful_cases s =
+room_cases : (s : Start) → HasRoom s ⊎ (HasRoom s → ⊥)
+room_cases s =
     elim (cases_eq (s.stack_low % 4096) 0) [
       | inr other ↦ inr (λ h. other h.stack_low)
       | inl stack_low ↦ elim (cases_eq (s.stack_size % 4096) 0) [
@@ -158,16 +149,23 @@ lawful_cases s =
                   | inl over ↦ inr (λ h. omega (arith, h.heap_end))
                   | inr heap_end ↦ elim (cases_lt 33_554_432 (s.stack_size + s.heap_size)) [
                     | inl over ↦ inr (λ h. omega (arith, h.most))
-                    | inr most ↦ elim (apart_cases s some) [
-                      | inr overlap ↦ inr (λ h. overlap h.apart)
-                      | inl apart ↦ inl (record { stack_low = stack_low; stack_size = stack_size; heap_low = heap_low; heap_size = heap_size; stack = some; stack_end = stack_end; heap_end = heap_end; apart = apart; most = most })
-                    ]
+                    | inr most ↦ inl (record { stack_low = stack_low; stack_size = stack_size; heap_low = heap_low; heap_size = heap_size; stack = some; stack_end = stack_end; heap_end = heap_end; most = most })
                   ]
                 ]
               ]
             ]
           ]
         ]
+      ]
+    ]
+
+pub lawful_cases : (s : Start) → IsLawfulStart s ⊎ (IsLawfulStart s → ⊥)
+lawful_cases s =
+    elim (room_cases s) [
+      | inr none ↦ inr (λ h. none h.room)
+      | inl room ↦ elim (apart_cases s room.stack) [
+        | inr overlap ↦ inr (λ h. overlap h.apart)
+        | inl apart ↦ inl (record { room = room; apart = apart })
       ]
     ]
 
@@ -181,7 +179,6 @@ with_body file start body h lawful (inl list) =
       record { start = start; entries = list.0 },
       record {
         lawful = record { fits = h.0; start = lawful; entries = list.1.lawful; ended = list.1.ended };
-        built = list.1.built;
         spelled = h.1 ∙ ap (λ (x : List ℕ). header start ++ x) list.1.spelled;
       },
     )

@@ -1,11 +1,10 @@
 -- What is wrong with a file that isn't a log: the first fault, from its first byte on.
 use Rattle.std.specs.Prelude.{◌≡◌, ◌≢◌, ℕ, ◌-◌, ◌<◌, ◌≤◌, List, [], ◌∷◌, ◌++◌, length, take, slice_index, ◌⊎◌}
-use Rattle.om_log.specs.Gate.{IsUnbuilt, AreBuilt}
 use Rattle.om_log.specs.Grammar.{spelling, spellings, header, Fits, HasCause, step_of, AreLawful, HasEnd, next_after}
 use Rattle.om_log.specs.Regions.{FitsStart, IsLawfulStart}
 use Rattle.om_log.specs.declared.entry.Entry.{Entry}
 use Rattle.om_log.specs.declared.fault.LogFault.{LogFault}
-use Rattle.om_log.specs.declared.fault.LogFault.TheVariants.{Short, Magic, Version, Kind, Order, NoEnd, Trailing, Region, Unbuilt}
+use Rattle.om_log.specs.declared.fault.LogFault.TheVariants.{Short, Magic, Version, Kind, Order, NoEnd, Trailing, Region}
 use Rattle.om_log.specs.declared.start.Start.{Start}
 
 -- ---- the header
@@ -63,9 +62,7 @@ IsNoEntry at (kind ∷ rest) fault =
 
 -- the fault at an offset of bytes that begin with no entry that may stand where no step below this one may
 unfoldable pub IsRefused : ℕ → ℕ → List ℕ → LogFault → Type 0
-IsRefused least at rest fault =
-    (IsUnbuilt rest × (fault ≡ Unbuilt at))
-    ⊎ ((IsUnbuilt rest → ⊥) × (IsNoEntry at rest fault ⊎ (IsEarly least rest × (fault ≡ Order at))))
+IsRefused least at rest fault = IsNoEntry at rest fault ⊎ (IsEarly least rest × (fault ≡ Order at))
 
 -- the fault at an offset of the bytes behind lawful entries: the entry there is refused, or the entries have ended
 unfoldable pub IsStop : List Entry → ℕ → List ℕ → LogFault → Type 0
@@ -78,7 +75,6 @@ pub record IsBodyFault (len : ℕ) (body : List ℕ) (fault : LogFault) : Type 0
   pub entries : List Entry
   pub rest : List ℕ
   pub lawful : AreLawful 0 entries
-  pub built : AreBuilt entries
   pub spelled : body ≡ spellings entries ++ rest
   pub stop : IsStop entries (len - length rest) rest fault
 

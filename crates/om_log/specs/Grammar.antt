@@ -2,7 +2,6 @@
 use Rattle.std.specs.Prelude.{◌≡◌, ℕ, ◌+◌, ◌<◌, ◌≤◌, ◌^◌, List, [], ◌∷◌, ◌++◌, length, ◌⊎◌}
 use Rattle.std.specs.List.{flat_map, AllByRecursion}
 use Rattle.om_log.specs.Chunk.{Chunk}
-use Rattle.om_log.specs.Gate.{AreBuilt}
 use Rattle.om_log.specs.LittleEndian.{le_bytes}
 use Rattle.om_log.specs.Regions.{FitsStart, IsLawfulStart}
 use Rattle.om_log.specs.declared.entry.Entry.{Entry}
@@ -109,8 +108,7 @@ pub record IsLawfulLog (log : Log) : Type 0 where
   pub entries : AreLawful 0 log.entries
   pub ended : HasEnd log.entries
 
--- a file is the spelling of a log, and of one that is read by now
+-- a file is the spelling of a log
 pub record IsLog (file : List ℕ) (log : Log) : Type 0 where
   pub lawful : IsLawfulLog log
-  pub built : AreBuilt log.entries
   pub spelled : file ≡ header log.start ++ spellings log.entries

@@ -1,10 +1,11 @@
+pub mod Appending
 pub mod Chunk
 pub mod Faults
 pub mod Fields
-pub mod Gate
 pub mod Grammar
 pub mod Held
 pub mod LittleEndian
 pub mod Reading
 pub mod Regions
 pub mod Steps
+pub mod Writing

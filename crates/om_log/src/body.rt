@@ -7,7 +7,6 @@ ghost use Rattle.om_log.specs.Steps.{IsFirst, IsBody};
 use crate::entry::Entry;
 use crate::entry_fields::entry_of;
 use crate::fault::LogFault;
-use crate::gate::is_unbuilt;
 use om_base::Items;
 use std::alloc::Global;
 
@@ -47,9 +46,6 @@ fn next_entry<'a>(rest: &'a [u8], at: u64, least: u128) -> Result<(Entry<'a>, &'
     ensures first { IfOk result (λ x. IsFirst least rest.now x.0 x.1.now) }
     ensures fault { IfErr result (λ fault. IsRefused least at rest.now fault) }
 {
-    if is_unbuilt(rest) {
-        return Err(LogFault::Unbuilt { at });
-    }
     let Some(kind) = rest.first() else {
         return Err(LogFault::NoEnd);
     };

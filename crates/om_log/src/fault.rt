@@ -28,8 +28,6 @@ pub enum LogFault {
     Trailing { at: u64 },
     /// The regions of the header aren't lawful.
     Region,
-    /// The entry is one that isn't read yet: a MARK, or a CALL with writes.
-    Unbuilt { at: u64 },
 }
 
 impl From<NoMemory> for LogFault {

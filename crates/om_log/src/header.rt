@@ -11,7 +11,7 @@ use crate::fields::u32_of;
 use crate::start::Start;
 
 /// The size of the header, in bytes.
-const HEADER: usize = 20;
+pub(crate) const HEADER: usize = 20;
 
 /// The version byte: the digit 1.
 const VERSION: u8 = b'1';

@@ -2,7 +2,6 @@
 
 ghost use Rattle.std.specs.Prelude.{◌≡◌, ◌<◌, ◌⊎◌, ◌++◌, ℕ, List, slice_index};
 ghost use Rattle.om_log.specs.Faults.{IsFault, IsBodyFault};
-ghost use Rattle.om_log.specs.Gate.{AreBuilt};
 ghost use Rattle.om_log.specs.Grammar.{AreLawful, spellings, IsLog};
 ghost use Rattle.om_log.specs.Steps.{IsBody};
 ghost use Rattle.om_log.specs.declared.entry.Entry.{Entry};
@@ -23,7 +22,7 @@ pub fn one_reading()
 /// front of theirs.
 pub fn longest()
     ensures { (len : ℕ) (body : List ℕ) (f : LogFault) (fault : IsBodyFault len body f)
-        (entries : List Entry) (rest : List ℕ) → AreLawful 0 entries → AreBuilt entries
+        (entries : List Entry) (rest : List ℕ) → AreLawful 0 entries
         → body ≡ spellings entries ++ rest
         → (more : List Entry) × (fault.entries ≡ entries ++ more) }
 {}

@@ -1,4 +1,4 @@
-//! The log of a run: format OTL1, its reader, and the list that the reader gives.
+//! The log of a run: format OTL1, its reader, the list that the reader gives, and its writer.
 //!
 //! All numbers of the format are little-endian. A header of 20 bytes is followed by entries, each a
 //! kind byte and the fields of that kind, up to one END, which stands last.
@@ -9,15 +9,17 @@ mod entry;
 mod entry_fields;
 mod fault;
 mod fields;
-mod gate;
 mod header;
 mod laws;
 mod log;
+mod pieces;
 mod reader;
+mod spelling;
 mod start;
 #[cfg(test)]
 mod tests;
 mod write;
+mod writer;
 mod writes;
 
 pub use entry::Entry;
@@ -27,4 +29,5 @@ pub use log::Log;
 pub use reader::read_log;
 pub use start::Start;
 pub use write::Write;
+pub use writer::{LogWriter, write_log};
 pub use writes::Writes;

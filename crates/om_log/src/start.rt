@@ -1,6 +1,6 @@
 //! The regions that a run begins with, beside those of the executable.
 
-ghost use Rattle.std.specs.Prelude.{◌≡◌, ◌<◌, ◌≤◌, ◌+◌, ◌%◌, ◌^◌, ◌↔◌, ℕ, IsTrue};
+ghost use Rattle.std.specs.Prelude.{◌≡◌, ◌<◌, ◌+◌, ◌%◌, ◌↔◌, IsTrue};
 
 /// The size of a page, in bytes.
 const PAGE: u32 = 4096;
@@ -25,13 +25,25 @@ pub struct Start {
 }
 
 impl Start {
-    ghost use Rattle.om_log.specs.Regions.{IsWithin, IsLawfulStart};
+    ghost use Rattle.om_log.specs.Regions.{HasRoom, AreApart, IsLawfulStart};
 
     /// Whether the header of a log may have these regions.
     pub fn is_lawful(&self) -> bool
         ensures { IsTrue result ↔ IsLawfulStart self.now }
     {
-        self.has_whole_pages() && self.has_room() && self.is_apart()
+        self.has_room() && self.is_apart()
+    }
+
+    /// Whether all four are multiples of 4096, there is a stack, and no region goes past the last
+    /// address or is too large.
+    fn has_room(&self) -> bool
+        ensures { IsTrue result ↔ HasRoom self.now }
+    {
+        self.has_whole_pages()
+            && self.stack_size > 0
+            && self.stack_end() <= ADDRESSES
+            && self.heap_end() <= ADDRESSES
+            && u64::from(self.stack_size) + u64::from(self.heap_size) <= MOST
     }
 
     /// Whether all four are multiples of 4096.
@@ -46,25 +58,10 @@ impl Start {
             && self.heap_size % PAGE == 0
     }
 
-    /// Whether there is a stack, and no region goes past the last address or is too large.
-    fn has_room(&self) -> bool
-        ensures { IsTrue result
-            ↔ ((0 < self.now.stack_size) × (self.now.stack_low + self.now.stack_size ≤ 2 ^ 32)
-            × (self.now.heap_low + self.now.heap_size ≤ 2 ^ 32)
-            × (self.now.stack_size + self.now.heap_size ≤ 33_554_432)) }
-    {
-        self.stack_size > 0
-            && self.stack_end() <= ADDRESSES
-            && self.heap_end() <= ADDRESSES
-            && u64::from(self.stack_size) + u64::from(self.heap_size) <= MOST
-    }
-
     /// Whether no address lies in both regions.
     fn is_apart(&self) -> bool
         requires { 0 < self.now.stack_size }
-        ensures { IsTrue result
-            ↔ ((addr : ℕ) → IsWithin addr self.now.stack_low self.now.stack_size
-            → IsWithin addr self.now.heap_low self.now.heap_size → ⊥) }
+        ensures { IsTrue result ↔ AreApart self.now }
     {
         self.heap_size == 0
             || self.stack_end() <= u64::from(self.heap_low)

@@ -1,6 +1,6 @@
 //! The writes of a call, in log order.
 
-ghost use Rattle.std.specs.Prelude.{◌≡◌, [], ◌∷◌};
+ghost use Rattle.std.specs.Prelude.{◌≡◌, ◌<◌, ◌^◌, [], ◌∷◌, length};
 ghost use Rattle.om_log.specs.Chunk.{first_and_others};
 ghost use Rattle.om_log.specs.Reading.{chunks_in};
 
@@ -84,6 +84,20 @@ impl<'a> Writes<'a> {
             )),
             Held::Spelled(count, bytes) => Writes::split_spelled(*count, bytes),
         }
+    }
+
+    /// How many writes there are.
+    pub(crate) fn count(&self) -> u32
+        requires { length self.now < 2 ^ 32 }
+        ensures { result ≡ length self.now }
+    {
+        let mut count = 0;
+        let mut rest = self.again();
+        while let Some((_, others)) = rest.split_first() {
+            count += 1;
+            rest = others;
+        }
+        count
     }
 
     /// As many writes as `bytes` begin with, at most `count`.
