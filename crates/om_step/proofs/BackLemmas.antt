@@ -6,7 +6,7 @@ use Rattle.om_mem.proofs.LawLemmas.{same_pages}
 use Rattle.om_mem.specs.Contents.{Contents, IsWhole}
 use Rattle.om_mem.specs.Pages.{page_count, page_in, with_page}
 use Rattle.om_step.specs.Back.{IsBack, IsPut}
-use Rattle.om_step.specs.State.{State, core_of}
+use Rattle.om_step.specs.State.{State}
 use Rattle.om_step.specs.declared.register_file.Core.{Core}
 
 -- the pages before a place are put, and those from it on are as they were

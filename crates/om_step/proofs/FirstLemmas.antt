@@ -1,10 +1,10 @@
 -- That the memory of a run, made by filling regions of zeros, is the one that the run begins with.
-use Rattle.std.proofs.Common.{◌≡◌, ℕ, zero, suc, ◌+◌, ◌-◌, ◌^◌, ◌<◌, ◌≤◌, List, [], ◌∷◌, ◌++◌, length, drop, map, filter, sum_by, replicate, get_or, All, Bool, true, false, None, nat_lt, refl, sym, ap, subst, ◌∙◌, arith, append_assoc, append-nil, length-append, if◌then◌else◌}
+use Rattle.std.proofs.Common.{◌≡◌, ℕ, zero, suc, ◌+◌, ◌-◌, ◌^◌, ◌<◌, ◌≤◌, List, [], ◌∷◌, ◌++◌, length, drop, map, filter, sum_by, replicate, get_or, All, true, false, None, nat_lt, refl, sym, ap, subst, ◌∙◌, arith, append_assoc, append-nil, length-append, if◌then◌else◌}
 use Rattle.std.proofs.lemmas.List.{length-map, map-append, length-replicate}
 use Rattle.std.proofs.lemmas.List.Sums.{sum_by-cons, sum_by-append}
 use Rattle.std.proofs.lemmas.List.Elements.{All-nil, All-cons, All-head, All-tail}
 use Rattle.om_elf.specs.Image.{Image, FitsMemory, AreLoadable}
-use Rattle.om_log.specs.Regions.{IsLawfulStart}
+use Rattle.om_log.specs.Regions.{HasRoom}
 use Rattle.om_log.specs.declared.start.Start.{Start}
 use Rattle.om_mem.proofs.FilledLemmas.{filled-more, filled_none}
 use Rattle.om_mem.specs.Contents.{Contents, Filled, after_write, all_zeros, contents_of, overlap_of, padded, region_in, zeros}
@@ -62,21 +62,21 @@ size-segments (i ∷ is) =
     ]
 
 -- stack and heap fill their regions
-sound-start : (start : Start) → IsLawfulStart start → AreSound (stack_of start ∷ heap_of start ∷ [])
-sound-start start lawful =
-    (length-replicate start.stack_size 0, lawful.stack_end, (length-replicate start.heap_size 0, lawful.heap_end, tt))
+sound-start : (start : Start) → HasRoom start → AreSound (stack_of start ∷ heap_of start ∷ [])
+sound-start start room =
+    (length-replicate start.stack_size 0, room.stack_end, (length-replicate start.heap_size 0, room.heap_end, tt))
 
-sound-all : (images : List Image) (start : Start) → AreLoadable images → IsLawfulStart start → AreSound (filled_of images start)
+sound-all : (images : List Image) (start : Start) → AreLoadable images → HasRoom start → AreSound (filled_of images start)
 unfolding filled_of
-sound-all images start loadable lawful =
-    sound-append (segments_of images) (stack_of start ∷ heap_of start ∷ []) (sound-segments images loadable.fit) (sound-start start lawful)
+sound-all images start loadable room =
+    sound-append (segments_of images) (stack_of start ∷ heap_of start ∷ []) (sound-segments images loadable.fit) (sound-start start room)
 
 -- the regions of a run take at most 64 MiB
-pub size-all : (images : List Image) (start : Start) → AreLoadable images → IsLawfulStart start → sum_by (λ (r : Region). r.size) (map (λ (f : Filled). f.region) (filled_of images start)) ≤ 67108864
+pub size-all : (images : List Image) (start : Start) → AreLoadable images → HasRoom start → sum_by (λ (r : Region). r.size) (map (λ (f : Filled). f.region) (filled_of images start)) ≤ 67108864
 unfolding filled_of
-size-all images start loadable lawful =
+size-all images start loadable room =
     let front = size-segments images in
-    let least = lawful.most in
+    let least = room.most in
     let most = loadable.small in
     rw (map-append (λ (f : Filled). f.region) (segments_of images) (stack_of start ∷ heap_of start ∷ []), sum_by-append (λ (r : Region). r.size) (map (λ (f : Filled). f.region) (segments_of images)) (map (λ (f : Filled). f.region) (stack_of start ∷ heap_of start ∷ []))) (omega arith)
 
@@ -99,8 +99,8 @@ few_regions images start loadable =
     simp (length-map, length-append) (omega arith)
 
 -- the regions of a run end in the address space
-pub ends_regions : (images : List Image) (start : Start) → AreLoadable images → IsLawfulStart start → All (λ (r : Region). r.low + r.size ≤ 2 ^ 32) (regions_of images start)
-ends_regions images start loadable lawful = ends-filled (filled_of images start) (sound-all images start loadable lawful)
+pub ends_regions : (images : List Image) (start : Start) → AreLoadable images → HasRoom start → All (λ (r : Region). r.low + r.size ≤ 2 ^ 32) (regions_of images start)
+ends_regions images start loadable room = ends-filled (filled_of images start) (sound-all images start loadable room)
 
 -- ---- filling them
 
@@ -145,9 +145,9 @@ fit-parts (i ∷ is) more fit rest =
       | false ↦ others
     ]
 
-fit-all : (images : List Image) (start : Start) → AreLoadable images → IsLawfulStart start → AreFit (parts images ++ tail start)
-fit-all images start loadable lawful =
-    fit-parts images (tail start) loadable.fit (omega arith, lawful.stack_end, (omega arith, lawful.heap_end, tt))
+fit-all : (images : List Image) (start : Start) → AreLoadable images → HasRoom start → AreFit (parts images ++ tail start)
+fit-all images start loadable room =
+    fit-parts images (tail start) loadable.fit (omega arith, room.stack_end, (omega arith, room.heap_end, tt))
 
 -- before the first segment
 pub fill_start : (segments : List Image) (start : Start) (memory : Contents) → memory ≡ all_zeros (regions_of segments start) → Filling segments start segments memory 0
@@ -167,15 +167,15 @@ part_skipped s more skipped = rw skipped refl
 
 -- a segment that isn't empty fills its region
 pub fill_more : (segments : List Image) (start : Start) (s : Image) (more : List Image) (memory : Contents) (at : ℕ)
-    → nat_lt 0 s.memsz ≡ true → overlap_of (regions_of segments start) ≡ None → AreLoadable segments → IsLawfulStart start
+    → nat_lt 0 s.memsz ≡ true → overlap_of (regions_of segments start) ≡ None → AreLoadable segments → HasRoom start
     → Filling segments start (s ∷ more) memory at → Filling segments start more (after_write memory s.vaddr s.bytes) (at + 1)
-fill_more segments start s more memory at kept apart loadable lawful f =
+fill_more segments start s more memory at kept apart loadable room f =
     let some : parts (s ∷ more) ≡ part s ∷ parts more = part_kept s more kept in
     let all : f.done ++ (part s ∷ parts more) ≡ parts segments = ap (λ xs. f.done ++ xs) (sym some) ∙ f.all in
     let whole : f.done ++ part s ∷ (parts more ++ tail start) ≡ parts segments ++ tail start = sym (append_assoc f.done (part s ∷ parts more) (tail start)) ∙ ap (λ xs. xs ++ tail start) all in
     let free : overlap_of (map (λ (x : Filled). x.region) (f.done ++ part s ∷ (parts more ++ tail start))) ≡ None =
     ap (λ (fs : List Filled). overlap_of (map (λ (x : Filled). x.region) fs)) whole ∙ ap overlap_of (regions_same segments start) ∙ apart in
-    let fit : AreFit (f.done ++ part s ∷ (parts more ++ tail start)) = subst AreFit (sym whole) (fit-all segments start loadable lawful) in
+    let fit : AreFit (f.done ++ part s ∷ (parts more ++ tail start)) = subst AreFit (sym whole) (fit-all segments start loadable room) in
     record {
       done = f.done ++ part s ∷ [];
       all = append_assoc f.done (part s ∷ []) (parts more) ∙ all;

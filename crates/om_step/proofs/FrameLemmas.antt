@@ -26,11 +26,16 @@ length_low zero value = refl
 length_low (suc n) value = ap suc (length_low n (value / 256))
 
 -- a byte elsewhere is as it was
+pub bytes_elsewhere : (m : Contents) (address : ℕ) (bs : List ℕ) (a : ℕ) → address < 2 ^ 32 → IsElsewhere address (length bs) a
+    → fin.get (after_write m address bs).bytes a ≡ fin.get m.bytes a
+unfolding after_write
+bytes_elsewhere m address bs a small apart = stored_elsewhere m.bytes address bs a small apart
+
+-- the same where the bytes are those of a number
 pub write_elsewhere : (m : Contents) (address count value a : ℕ) → address < 2 ^ 32 → IsElsewhere address count a
     → fin.get (after_write m address (low_bytes count value)).bytes a ≡ fin.get m.bytes a
-unfolding after_write
 write_elsewhere m address count value a small apart =
-    stored_elsewhere m.bytes address (low_bytes count value) a small (rw (length_low count value) apart)
+    bytes_elsewhere m address (low_bytes count value) a small (rw (length_low count value) apart)
 
 -- the regions stay
 pub write_rights : (m : Contents) (address : ℕ) (bs : List ℕ) → (after_write m address bs).regions ≡ m.regions

@@ -1,5 +1,5 @@
 -- Putting a machine back into a state that it was in.
-use Rattle.std.specs.Prelude.{◌≡◌, ℕ, ◌<◌, false, List, Option, length, unwrap_or, slice_index, IfSome}
+use Rattle.std.specs.Prelude.{◌≡◌, ℕ, ◌<◌, false, List, Option, length, unwrap_or, IfSome}
 use Rattle.om_mem.specs.Contents.{Contents, IsWhole}
 use Rattle.om_mem.specs.declared.region.Region.{Region}
 use Rattle.om_mem.specs.Pages.{flag, page_addresses, page_count, page_in}

@@ -1,5 +1,5 @@
 -- The first state of a run.
-use Rattle.std.specs.Prelude.{◌≡◌, ℕ, ◌+◌, ◌-◌, ◌%◌, ◌^◌, ◌≤◌, ◌<◌, false, nat_lt, List, [], ◌∷◌, ◌++◌, length, map, filter, replicate, slice_set}
+use Rattle.std.specs.Prelude.{◌+◌, ◌-◌, false, nat_lt, List, [], ◌∷◌, ◌++◌, length, map, filter, replicate, slice_set}
 use Rattle.om_mem.specs.Contents.{Filled, contents_of, zeros}
 use Rattle.om_mem.specs.Pages.{page_count}
 use Rattle.om_mem.specs.declared.region.Region.{Region}

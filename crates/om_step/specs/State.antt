@@ -1,5 +1,5 @@
 -- A state of the machine.
-use Rattle.std.specs.Prelude.{◌≡◌, ℕ, ◌+◌, ◌%◌, ◌^◌, Bool, List, slice_index, slice_set, sum_by, nat_eq, if◌then◌else◌, refl}
+use Rattle.std.specs.Prelude.{ℕ, ◌%◌, ◌^◌, Bool, List, slice_index, slice_set, sum_by, nat_eq, if◌then◌else◌, refl}
 use Rattle.std.specs.Coded.{Coded, code_by, coded×, coded_ℕ, coded_bool, coded_list}
 use Rattle.om_mem.specs.Contents.{Contents, contents_code}
 use Rattle.om_mem.specs.Pages.{Held}

@@ -1,10 +1,13 @@
 -- What a step does at a state, and where the machine stops.
-use Rattle.std.specs.Prelude.{◌≡◌, ◌≢◌, ℕ, ◌+◌, ◌*◌, ◌<◌, ◌%◌, ◌^◌, Bool, nat_eq, is_none, if◌then◌else◌, List, Option, Some, None, Result, Ok, Err}
-use Rattle.std.specs.List.{list_all}
-use Rattle.std.specs.Option.{option_and_then}
+use Rattle.std.specs.Prelude.{◌≢◌, ℕ, ◌+◌, ◌*◌, ◌<◌, ◌%◌, ◌^◌, Bool, nat_eq, if◌then◌else◌, List, [], ◌∷◌, length, Option, Some, None, Result, Ok, Err}
+use Rattle.std.specs.List.{AllByRecursion}
+use Rattle.std.specs.Option.{option_or}
 use Rattle.om_isa.specs.Table.{decoded, extended}
 use Rattle.om_isa.specs.declared.instr.Instr.{Instr}
-use Rattle.om_mem.specs.Contents.{addresses_from, after_write, fetched, loaded, low_bytes, outside}
+use Rattle.om_log.specs.Chunk.{Chunk}
+use Rattle.om_mem.specs.Contents.{Contents, after_write, fetched, loaded, low_bytes, outside}
+use Rattle.om_mem.specs.declared.region.Region.{Region}
+use Rattle.om_mem.specs.declared.writing.WriteOutside.{WriteOutside}
 use Rattle.om_step.specs.Actions.{action_of}
 use Rattle.om_step.specs.State.{State, register, written}
 use Rattle.om_step.specs.declared.action.Action.{Action}
@@ -91,9 +94,34 @@ outcome s = told_by s (action_at s)
 unfoldable pub next : State → State
 next s = after s (action_at s)
 
--- the state after a call that was answered with a value: it stands in a0, and the pc goes on
-abbrev pub answered : State → ℕ → State
-answered s value = record s { pc = next_pc s; registers = written s.registers 10 value }
+-- the first address, in the order of some writes and of their bytes, that may not be written
+unfoldable pub outside_of : List Region → List Chunk → Option ℕ
+outside_of regions [] = None
+outside_of regions (chunk ∷ chunks) =
+    option_or (outside regions chunk.addr (length chunk.bytes)) (outside_of regions chunks)
+
+-- memory after some writes, one after another
+unfoldable pub after_writes : Contents → List Chunk → Contents
+after_writes memory [] = memory
+after_writes memory (chunk ∷ chunks) = after_writes (after_write memory chunk.addr chunk.bytes) chunks
+
+-- the state after a call that was answered with a value and some writes: the value stands in a0, and the pc goes on
+abbrev pub answered : State → ℕ → List Chunk → State
+answered s value writes = record {
+  pc = next_pc s;
+  registers = written s.registers 10 value;
+  memory = after_writes s.memory writes;
+}
+
+-- what an answer tells: what the call wrote, or the first address that may not be written
+abbrev pub told_answer : List Chunk → Option ℕ → Result Touched WriteOutside
+told_answer writes None = Ok (TouchedCall writes)
+told_answer writes (Some address) = Err (record { addr = address })
+
+-- the state that an answer leaves: at a refusal nothing changes
+abbrev pub after_answer : State → ℕ → List Chunk → Option ℕ → State
+after_answer s value writes None = answered s value writes
+after_answer s value writes (Some address) = s
 
 -- how many steps an outcome made
 abbrev pub steps_of : Outcome → ℕ
@@ -117,7 +145,7 @@ abbrev pub SparesRegister : Outcome → ℕ → Type 0
 SparesRegister (Next Nothing) r = Unit {0}
 SparesRegister (Next (Reg number)) r = r ≢ number
 SparesRegister (Next (Bytes address count)) r = Unit {0}
-SparesRegister (Next TouchedCall) r = r ≢ 10
+SparesRegister (Next (TouchedCall writes)) r = r ≢ 10
 SparesRegister Call r = Unit {0}
 SparesRegister (Stop cause) r = Unit {0}
 
@@ -125,11 +153,15 @@ SparesRegister (Stop cause) r = Unit {0}
 abbrev pub IsElsewhere : (address count a : ℕ) → Type 0
 IsElsewhere address count a = (k : ℕ) → k < count → a ≢ (address + k) % 2 ^ 32
 
+-- an address is none of those of some writes
+abbrev pub AreElsewhere : List Chunk → (a : ℕ) → Type 0
+AreElsewhere writes a = AllByRecursion (λ (chunk : Chunk). IsElsewhere chunk.addr (length chunk.bytes) a) writes
+
 -- an outcome doesn't tell that the byte at an address was written
 abbrev pub SparesByte : Outcome → ℕ → Type 0
 SparesByte (Next Nothing) a = Unit {0}
 SparesByte (Next (Reg number)) a = Unit {0}
 SparesByte (Next (Bytes address count)) a = IsElsewhere address count a
-SparesByte (Next TouchedCall) a = Unit {0}
+SparesByte (Next (TouchedCall writes)) a = AreElsewhere writes a
 SparesByte Call a = Unit {0}
 SparesByte (Stop cause) a = Unit {0}

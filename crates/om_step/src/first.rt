@@ -2,7 +2,7 @@
 
 ghost use Rattle.std.specs.Prelude.{◌≡◌, ◌≤◌, ◌<◌, false, length, replicate, IfOk};
 ghost use Rattle.om_elf.specs.Image.{AreLoadable};
-ghost use Rattle.om_log.specs.Regions.{IsLawfulStart};
+ghost use Rattle.om_log.specs.Regions.{HasRoom};
 ghost use Rattle.om_mem.specs.Contents.{all_zeros, contents_of, overlap_of};
 ghost use Rattle.om_mem.specs.Gives.{Gives};
 ghost use Rattle.om_mem.specs.Pages.{page_count};
@@ -69,7 +69,7 @@ fn all_regions(alloc: Global, segments: &[Segment<'_>], start: &Start) -> Result
 /// Fills the segments' regions with the bytes that the file gives.
 fn fill_segments(memory: &mut Memory, segments: &[Segment<'_>], start: &Start)
     requires segments { AreLoadable segments.now }
-    requires start { IsLawfulStart start.now }
+    requires start { HasRoom start.now }
     requires apart { overlap_of (regions_of segments.now start.now) ≡ None }
     requires zeros { memory.old.contents ≡ all_zeros (regions_of segments.now start.now) }
     ensures { memory.new.contents ≡ contents_of (filled_of segments.now start.now) }
@@ -93,7 +93,7 @@ pub fn first_memory(
     start: &Start,
 ) -> Result<Memory, MapFault>
     requires segments { AreLoadable segments.now }
-    requires start { IsLawfulStart start.now }
+    requires start { HasRoom start.now }
     ensures { Gives (overlap_of (regions_of segments.now start.now))
         (record {
           contents = contents_of (filled_of segments.now start.now);

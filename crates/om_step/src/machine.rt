@@ -2,7 +2,7 @@
 
 ghost use Rattle.std.specs.Prelude.{◌≡◌, ◌%◌, ◌^◌, ◌<◌, slice_index, sum_by};
 ghost use Rattle.om_elf.specs.Image.{AreLoadable};
-ghost use Rattle.om_log.specs.Regions.{IsLawfulStart};
+ghost use Rattle.om_log.specs.Regions.{HasRoom};
 ghost use Rattle.om_mem.specs.Contents.{overlap_of};
 ghost use Rattle.om_mem.specs.Gives.{Gives};
 ghost use Rattle.om_step.specs.First.{first_standing, regions_of};
@@ -61,7 +61,7 @@ impl Machine {
     /// Errors: `Overlap` where two of the run's regions share an address; `NoMemory`.
     pub fn load(alloc: Global, elf: &Elf<'_>, start: Start) -> Result<Machine, MapFault>
         requires loadable { AreLoadable elf.now.segments }
-        requires start { IsLawfulStart start }
+        requires start { HasRoom start }
         ensures { Gives (overlap_of (regions_of elf.now.segments start)) (first_standing elf.now start) result }
     {
         let memory = first_memory(alloc, elf.segments.as_slice(), &start)?;

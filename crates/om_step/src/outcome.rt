@@ -1,10 +1,11 @@
 //! What a step tells.
 
 use crate::cause::Cause;
+use om_log::Writes;
 
 /// What a step wrote.
-#[derive(Clone, Copy, Debug, PartialEq, Eq)]
-pub enum Touched {
+#[derive(Debug, Drop)]
+pub enum Touched<'a> {
     /// Neither a register but x0 nor memory.
     Nothing,
     /// This register, from 1 to 31.
@@ -16,15 +17,15 @@ pub enum Touched {
         /// How many bytes: 1, 2 or 4.
         len: u8,
     },
-    /// What an answered call writes: a0.
-    Call,
+    /// What an answered call wrote: a0, and these bytes of memory.
+    Call(Writes<'a>),
 }
 
 /// What happens at a state.
-#[derive(Clone, Copy, Debug, PartialEq, Eq)]
-pub enum Outcome {
+#[derive(Debug, Drop)]
+pub enum Outcome<'a> {
     /// The machine made a step, which wrote this.
-    Next(Touched),
+    Next(Touched<'a>),
     /// The machine stands at an ECALL, and waits for its answer.
     Call,
     /// The machine can't go on.

@@ -1,13 +1,13 @@
 //! One step of the machine.
 
-ghost use Rattle.std.specs.Prelude.{◌≡◌, ℕ, ◌+◌, ◌-◌, ◌%◌, ◌^◌, ◌<◌, ◌≢◌, slice_index};
+ghost use Rattle.std.specs.Prelude.{◌≡◌, ℕ, ◌+◌, ◌-◌, ◌%◌, ◌^◌, ◌<◌, ◌≢◌, slice_index, if◌then◌else◌, is_ok, None, IfOk, OnErr};
 ghost use Rattle.std.specs.FinMap as fin;
 ghost use Rattle.om_isa.specs.Table.{extended};
 ghost use Rattle.om_mem.specs.Contents.{fetched};
 ghost use Rattle.om_mem.specs.Pages.{IsKept};
 ghost use Rattle.om_step.specs.Acts.{IsSound, IsWidth};
 ghost use Rattle.om_step.specs.State.{held_of, register, written};
-ghost use Rattle.om_step.specs.Step.{SparesByte, SparesRegister, action_at, action_by, action_by_word, after, answered, extended_if, next, outcome, steps_of, told_by, touched_by};
+ghost use Rattle.om_step.specs.Step.{AreElsewhere, SparesByte, SparesRegister, action_at, action_by, action_by_word, after, after_answer, after_writes, extended_if, next, outcome, outside_of, steps_of, told_answer, told_by, touched_by};
 
 use crate::acting::action_of;
 use crate::action::Action;
@@ -16,12 +16,14 @@ use crate::machine::Machine;
 use crate::meter::StepMeter;
 use crate::outcome::{Outcome, Touched};
 use om_isa::decode;
+use om_log::Writes;
+use om_mem::{Memory, WriteOutside};
 
 /// The number of the register a0.
 const ARGUMENT_0: usize = 10;
 
 /// What a write to a register touches.
-fn write_touches(number: u8) -> Touched
+fn write_touches<'a>(number: u8) -> Touched<'a>
     ensures { result ≡ touched_by number }
 {
     if number == 0 {
@@ -31,7 +33,7 @@ fn write_touches(number: u8) -> Touched
 }
 
 /// Writes to a register, if that isn't x0, and tells what was written.
-fn write_register(registers: &mut [u32; 32], number: u8, value: u32) -> Touched
+fn write_register<'a>(registers: &mut [u32; 32], number: u8, value: u32) -> Touched<'a>
     requires { number < 32 }
     ensures registers { registers.new ≡ written registers.old number value }
     ensures told { result ≡ touched_by number }
@@ -88,7 +90,7 @@ fn extend(extends: bool, count: u8, value: u32) -> u32
 impl Machine {
     /// What happens at the state; a step isn't made.
     #[tactic(auto, unfolding(crate::specs::Step::outcome))]
-    pub fn look(&self) -> Outcome
+    pub fn look<'a>(&self) -> Outcome<'a>
         ensures { result ≡ outcome self.now.state }
     {
         match self.action(self.memory.fetched(self.pc)) {
@@ -143,14 +145,14 @@ impl Machine {
 
     /// The load of so many bytes into a register, if they are there.
     #[inline(always)] // as a part of `step`
-    fn load_into(
+    fn load_into<'a>(
         &mut self,
         rd: u8,
         address: u32,
         count: u8,
         extends: bool,
         meter: &mut StepMeter,
-    ) -> Outcome
+    ) -> Outcome<'a>
         requires register { rd < 32 }
         requires width { IsWidth count }
         requires meter { meter.old < 2 ^ 64 - 1 }
@@ -171,7 +173,13 @@ impl Machine {
 
     /// The store of so many low bytes of a value, if each of them may be written.
     #[inline(always)] // as a part of `step`
-    fn store(&mut self, address: u32, count: u8, value: u32, meter: &mut StepMeter) -> Outcome
+    fn store<'a>(
+        &mut self,
+        address: u32,
+        count: u8,
+        value: u32,
+        meter: &mut StepMeter,
+    ) -> Outcome<'a>
         requires width { IsWidth count }
         requires meter { meter.old < 2 ^ 64 - 1 }
         ensures state { self.new.state ≡ after self.old.state (Action.Store address count value) }
@@ -199,7 +207,7 @@ impl Machine {
     /// `Call` and `Stop` change neither the state nor the meter.
     #[inline(always)] // so that a loop of steps has no call
     #[tactic(auto, unfolding(crate::specs::Step::outcome, crate::specs::Step::next))]
-    pub fn step(&mut self, meter: &mut StepMeter) -> Outcome
+    pub fn step<'a>(&mut self, meter: &mut StepMeter) -> Outcome<'a>
         requires { meter.old < 2 ^ 64 - 1 }
         ensures state { self.new.state ≡ next self.old.state }
         ensures told { result ≡ outcome self.old.state }
@@ -236,24 +244,71 @@ impl Machine {
     }
 }
 
+/// The first address, in the order of the writes and of their bytes, that may not be written.
+fn judge_writes(memory: &Memory, writes: &Writes<'_>) -> Option<u32>
+    ensures { result ≡ outside_of memory.now.contents.regions writes.now }
+{
+    let mut left = writes.again();
+    while let Some((write, others)) = left.split_first() {
+        if let Some(address) = memory.first_outside(write.addr, write.bytes.len()) {
+            return Some(address);
+        }
+        left = others;
+    }
+    None
+}
+
+/// Does the writes one after another.
+fn do_writes(memory: &mut Memory, writes: &Writes<'_>)
+    requires inside { outside_of memory.old.contents.regions writes.now ≡ None }
+    ensures contents { memory.new.contents ≡ after_writes memory.old.contents writes.now }
+    ensures kept { IsKept memory.old memory.new }
+    ensures bytes { (a : ℕ) → AreElsewhere writes.now a
+        → fin.get memory.new.contents.bytes a ≡ fin.get memory.old.contents.bytes a }
+    ensures rights { memory.new.contents.regions ≡ memory.old.contents.regions }
+{
+    let mut rest = writes.again();
+    while let Some((write, others)) = rest.split_first() {
+        memory.write_bytes(write.addr, write.bytes).unwrap();
+        rest = others;
+    }
+}
+
 impl Machine {
-    /// The answer to the call at which the machine stands: `value` goes to a0, and the pc goes on.
-    pub fn answer_call(&mut self, value: u32, meter: &mut StepMeter) -> Touched
+    /// The answer to the call at which the machine stands: the writes are done in their order, `value` goes to
+    /// a0, and the pc goes on.
+    ///
+    /// Errors: `WriteOutside`, and nothing changes, where a byte of a write isn't in a region with the right to
+    /// write. All writes are judged before one is done.
+    pub fn answer_call<'a>(
+        &mut self,
+        value: u32,
+        writes: Writes<'a>,
+        meter: &mut StepMeter,
+    ) -> Result<Touched<'a>, WriteOutside>
         requires call { outcome self.old.state ≡ Outcome.Call }
         requires meter { meter.old < 2 ^ 64 - 1 }
-        ensures state { self.new.state ≡ answered self.old.state value }
-        ensures told { result ≡ Touched.Call }
-        ensures meter { meter.new ≡ meter.old + 1 }
+        ensures told { result ≡ told_answer writes.entry (outside_of self.old.state.memory.regions writes.entry) }
+        ensures state { self.new.state ≡ after_answer self.old.state value writes.entry
+            (outside_of self.old.state.memory.regions writes.entry) }
+        ensures meter { meter.new ≡ meter.old + (if is_ok result then 1 else 0) }
+        ensures waits { OnErr result (self.new ≡ self.old) }
         ensures kept { IsKept (held_of self.old) (held_of self.new) }
 
         // What the answer doesn't tell stays.
-        ensures registers { (r : ℕ) → SparesRegister (Outcome.Next result) r
-            → register self.new.state r ≡ register self.old.state r }
-        ensures memory { self.new.state.memory ≡ self.old.state.memory }
+        ensures registers { IfOk result (λ touched. (r : ℕ) → SparesRegister (Outcome.Next touched) r
+            → register self.new.state r ≡ register self.old.state r) }
+        ensures bytes { IfOk result (λ touched. (a : ℕ) → SparesByte (Outcome.Next touched) a
+            → fin.get self.new.state.memory.bytes a ≡ fin.get self.old.state.memory.bytes a) }
+        ensures rights { self.new.state.memory.regions ≡ self.old.state.memory.regions }
     {
+        if let Some(addr) = judge_writes(&self.memory, &writes) {
+            return Err(WriteOutside { addr });
+        }
+        do_writes(&mut self.memory, &writes);
         self.registers[ARGUMENT_0] = value;
         self.pc = self.pc.wrapping_add(4);
         meter.raise();
-        Touched::Call
+        Ok(Touched::Call(writes))
     }
 }

@@ -366,7 +366,7 @@ fn word_at(machine: &Machine, address: u32) -> u32 {
 }
 
 /// What a step from a vector's word to `machine` did, which told `outcome`, in the terms of `wanted`.
-fn effect_of(machine: &Machine, outcome: Outcome, wanted: Effect) -> Effect {
+fn effect_of(machine: &Machine, outcome: Outcome<'_>, wanted: Effect) -> Effect {
     let way = machine.pc().wrapping_sub(PLACE).cast_signed();
     match (outcome, wanted) {
         (Outcome::Call, _) => Ask,

@@ -1,4 +1,4 @@
-use Rattle.om_step.proofs.BackLemmas.{put_end, put_more, put_none, put_start}
+use Rattle.om_step.proofs.BackLemmas.{put_start}
 use Rattle.om_step.proofs.back.put_pages.Goals as goal
 
 pub loop-page-init : goal.loop-page-init
