@@ -7,8 +7,8 @@ use Rattle.om_log.specs.declared.entry.Entry.{Entry}
 use Rattle.om_log.specs.declared.entry.Entry.TheVariants.{Call, Mark, End}
 use Rattle.om_step.specs.State.{State}
 use Rattle.om_step.specs.Step.{outcome}
-use Rattle.om_run.specs.Departure.{departs_at, departs_by, first_departure, without_last}
-use Rattle.om_run.specs.Run.{AreAfter, after_by, after_step, below, due, end_of, state_at}
+use Rattle.om_run.specs.Departure.{departs_at, departs_at_marks, departs_by, first_departure, without_last}
+use Rattle.om_run.specs.Run.{AreAfter, Marked, after_by, after_step, below, due, end_of, marks_of, state_at}
 use Rattle.om_run.specs.Replay.{Place, beginning, goes_on, here, moved, place_after, touched_by_step, verdict_at}
 use Rattle.om_run.specs.declared.departure.Departure.{Departure}
 use Rattle.om_run.specs.declared.departure.Halt.{Halt}
@@ -62,9 +62,29 @@ none_after i (End step cause value ∷ entries) later j h = none_after i entries
 pub due_kept : (i : ℕ) (kept later : List Entry) → AreAfter i later → (j : ℕ) → j ≤ i → due (kept ++ later) j ≡ due kept j
 due_kept i [] later after j h = none_after i later after j h
 due_kept i (Call step number args result writes ∷ kept) later after j h =
-    ap (λ (rest : Option Told). if nat_eq step j then Some (record { number = number; arguments = args; result = result }) else rest) (due_kept i kept later after j h)
+    ap (λ (rest : Option Told). if nat_eq step j then Some (record { number = number; arguments = args; result = result; writes = writes }) else rest) (due_kept i kept later after j h)
 due_kept i (Mark step pc sum ∷ kept) later after j h = due_kept i kept later after j h
 due_kept i (End step cause value ∷ kept) later after j h = due_kept i kept later after j h
+
+-- neither do its marks
+no_marks_after : (i : ℕ) (entries : List Entry) → AreAfter i entries → (j : ℕ) → j ≤ i → marks_of entries j ≡ []
+unfolding step_of
+no_marks_after i [] later j h = refl
+no_marks_after i (Call step number args result writes ∷ entries) later j h = no_marks_after i entries later.1 j h
+no_marks_after i (Mark step pc sum ∷ entries) later j h =
+    let other : nat_eq step j ≡ false = ne_eqb step j (λ same. omega (arith, later.0)) in
+    rw other (no_marks_after i entries later.1 j h)
+no_marks_after i (End step cause value ∷ entries) later j h = no_marks_after i entries later.1 j h
+
+marks_kept : (i : ℕ) (kept later : List Entry) → AreAfter i later → (j : ℕ) → j ≤ i → marks_of (kept ++ later) j ≡ marks_of kept j
+marks_kept i [] later after j h = no_marks_after i later after j h
+marks_kept i (Call step number args result writes ∷ kept) later after j h = marks_kept i kept later after j h
+marks_kept i (Mark step pc sum ∷ kept) later after j h =
+    ap (λ (rest : List Marked). if nat_eq step j then record { pc = pc; sum = sum } ∷ rest else rest) (marks_kept i kept later after j h)
+marks_kept i (End step cause value ∷ kept) later after j h = marks_kept i kept later after j h
+
+marks_same : (i : ℕ) (kept a b : List Entry) → AreAfter i a → AreAfter i b → (j : ℕ) → j ≤ i → marks_of (kept ++ a) j ≡ marks_of (kept ++ b) j
+marks_same i kept a b later_a later_b j h = marks_kept i kept a later_a j h ∙ sym (marks_kept i kept b later_b j h)
 
 due_same : (i : ℕ) (kept a b : List Entry) → AreAfter i a → AreAfter i b → (j : ℕ) → j ≤ i → due (kept ++ a) j ≡ due (kept ++ b) j
 due_same i kept a b later_a later_b j h = due_kept i kept a later_a j h ∙ sym (due_kept i kept b later_b j h)
@@ -89,16 +109,25 @@ same_by e f StandsAtCall call i s = refl
 same_by e f (Stop cause) None i s = refl
 same_by e f (Stop cause) (Some call) i s = refl
 
+-- a departure before the last step, without the log's last step
+unended : (entries : List Entry) (i : ℕ) (s : State) → i < (end_of entries).step
+    → option_map without_last (departs_at entries i s)
+    ≡ option_or (option_map without_last (departs_at_marks (marks_of entries i) i s)) (option_map without_last (departs_by (end_of entries) (outcome s) (due entries i) i s))
+unended entries i s h =
+    ap (option_map without_last) (departs_before entries i s h)
+    ∙ map_or without_last (departs_at_marks (marks_of entries i) i s) (departs_by (end_of entries) (outcome s) (due entries i) i s)
+
 -- nor a departure before both ends
 departs_same : (i : ℕ) (kept a b : List Entry) (first : State) → AreAfter i a → AreAfter i b → i < (end_of (kept ++ a)).step → i < (end_of (kept ++ b)).step → (j : ℕ) → j ≤ i
     → option_map without_last (departs_at (kept ++ a) j (state_at (kept ++ a) first j)) ≡ option_map without_last (departs_at (kept ++ b) j (state_at (kept ++ b) first j))
 departs_same i kept a b first later_a later_b end_a end_b j h =
     let s : State = state_at (kept ++ b) first j in
     ap (λ (x : State). option_map without_last (departs_at (kept ++ a) j x)) (states_same i kept a b first later_a later_b j (omega arith))
-    ∙ ap (option_map without_last) (departs_before (kept ++ a) j s (omega arith))
-    ∙ ap (λ (call : Option Told). option_map without_last (departs_by (end_of (kept ++ a)) (outcome s) call j s)) (due_same i kept a b later_a later_b j h)
-    ∙ same_by (end_of (kept ++ a)) (end_of (kept ++ b)) (outcome s) (due (kept ++ b) j) j s
-    ∙ ap (option_map without_last) (sym (departs_before (kept ++ b) j s (omega arith)))
+    ∙ unended (kept ++ a) j s (omega arith)
+    ∙ ap (λ (marks : List Marked). option_or (option_map without_last (departs_at_marks marks j s)) (option_map without_last (departs_by (end_of (kept ++ a)) (outcome s) (due (kept ++ a) j) j s))) (marks_same i kept a b later_a later_b j h)
+    ∙ ap (λ (call : Option Told). option_or (option_map without_last (departs_at_marks (marks_of (kept ++ b) j) j s)) (option_map without_last (departs_by (end_of (kept ++ a)) (outcome s) call j s))) (due_same i kept a b later_a later_b j h)
+    ∙ ap (option_or (option_map without_last (departs_at_marks (marks_of (kept ++ b) j) j s))) (same_by (end_of (kept ++ a)) (end_of (kept ++ b)) (outcome s) (due (kept ++ b) j) j s)
+    ∙ sym (unended (kept ++ b) j s (omega arith))
 
 -- the first departure up to a step more, without the log's last step
 first_more : (entries : List Entry) (first : State) (n : ℕ) → option_map without_last (first_departure entries first (below (suc n)))
@@ -134,7 +163,7 @@ is_before false i end made touched e is = absurd cc
 -- a move that was made: the run doesn't depart there, before the end
 goes_made : (place : Place) (found : Option Departure) (touched : Touched) → goes_on place found ≡ Ok touched → (found ≡ None) × (place.step < (end_of place.entries).step)
 goes_made place None touched e =
-    (refl, is_before (nat_lt place.step (end_of place.entries).step) place.step (end_of place.entries).step (touched_by_step (outcome (here place))) touched refl e)
+    (refl, is_before (nat_lt place.step (end_of place.entries).step) place.step (end_of place.entries).step (touched_by_step (outcome (here place)) (due place.entries place.step)) touched refl e)
 goes_made place (Some departure) touched e = absurd cc
 
 verdict_made : (place : Place) (touched : Touched) → verdict_at place ≡ Ok touched → (departs_at place.entries place.step (here place) ≡ None) × (place.step < (end_of place.entries).step)
@@ -142,7 +171,7 @@ unfolding verdict_at
 verdict_made place touched e = goes_made place (departs_at place.entries place.step (here place)) touched e
 
 verdict_goes : (entries : List Entry) (first : State) (n : ℕ) → departs_at entries n (state_at entries first n) ≡ None → n < (end_of entries).step
-    → verdict_at (at entries first n) ≡ Ok (touched_by_step (outcome (state_at entries first n)))
+    → verdict_at (at entries first n) ≡ Ok (touched_by_step (outcome (state_at entries first n)) (due entries n))
 unfolding verdict_at
 verdict_goes entries first n none before = ap (goes_on (at entries first n)) none ∙ goes_before (at entries first n) None before
 
@@ -158,7 +187,7 @@ reaches entries first (suc n) none within =
     or_both (first_departure entries first (below n)) (first_departure entries first (n ∷ [])) (sym (first_departure_append entries first (below n) (n ∷ [])) ∙ none) in
     let here_none : departs_at entries n (state_at entries first n) ≡ None = sym (or_none (departs_at entries n (state_at entries first n))) ∙ parts.1 in
     ap (λ (p : Place). moved p (verdict_at p)) (reaches entries first n parts.0 (omega arith))
-    ∙ moved_on entries first n (verdict_at (at entries first n)) (touched_by_step (outcome (state_at entries first n))) (verdict_goes entries first n here_none (omega arith))
+    ∙ moved_on entries first n (verdict_at (at entries first n)) (touched_by_step (outcome (state_at entries first n)) (due entries n)) (verdict_goes entries first n here_none (omega arith))
 
 moved_at_most : (place : Place) (verdict : Result Touched Halt) (n : ℕ) → place.step ≤ n → (moved place verdict).step ≤ suc n
 moved_at_most place (Ok touched) n h = omega arith

@@ -1,17 +1,17 @@
 -- Where a run departs from its log: the rules, in the order in which they are judged at a step.
 use Rattle.std.specs.Prelude.{ℕ, zero, suc, ◌+◌, Bool, false, not, ◌&&◌, ◌||◌, nat_eq, nat_lt, if◌then◌else◌, List, [], ◌∷◌, slice_index, map, Option, Some, None}
-use Rattle.std.specs.Option.{option_map, option_map_or, option_or}
+use Rattle.std.specs.Option.{option_and_then, option_map, option_map_or, option_or}
 use Rattle.om_log.specs.declared.entry.Entry.{Entry}
-use Rattle.om_step.specs.State.{State, register}
-use Rattle.om_step.specs.Step.{outcome, code_of}
+use Rattle.om_step.specs.State.{State, register, sum_of}
+use Rattle.om_step.specs.Step.{outcome, outside_of, code_of}
 use Rattle.om_step.specs.declared.cause.Cause.{Cause}
 use Rattle.om_step.specs.declared.outcome.Outcome.{Outcome}
 use Rattle.om_step.specs.declared.outcome.Outcome.TheVariants.{Next, Call as StandsAtCall, Stop}
 use Rattle.om_run.specs.declared.told.Told.{Told}
 use Rattle.om_run.specs.declared.told.Ending.{Ending}
-use Rattle.om_run.specs.Run.{due, end_of, state_at, below}
+use Rattle.om_run.specs.Run.{Marked, due, marks_of, end_of, state_at, below}
 use Rattle.om_run.specs.declared.departure.Reason.{Reason}
-use Rattle.om_run.specs.declared.departure.Reason.TheVariants.{EndExit, EndValue, EndStop, Call, Passed, Number, Argument, Stopped}
+use Rattle.om_run.specs.declared.departure.Reason.TheVariants.{MarkPc, MarkSum, EndExit, EndValue, EndStop, Call, Passed, Number, Argument, Outside, Stopped}
 use Rattle.om_run.specs.declared.departure.Departure.{Departure}
 
 -- a rule that is broken: the number that the log has, and the one that the run has
@@ -21,6 +21,16 @@ pub record Broken : Type 0 where
 
 abbrev pub broken : (told found : ℕ) → Option Broken
 broken told found = Some (record { told = told; found = found })
+
+-- ---- marks
+
+-- a mark has another pc
+abbrev pub mark_pc : Marked → State → Option Broken
+mark_pc mark s = if nat_eq mark.pc s.pc then None else broken mark.pc s.pc
+
+-- a mark has another sum of the registers
+abbrev pub mark_sum : Marked → State → Option Broken
+mark_sum mark s = if nat_eq mark.sum (sum_of s) then None else broken mark.sum (sum_of s)
 
 -- ---- the end
 
@@ -93,6 +103,10 @@ abbrev pub other_argument : ℕ → Told → State → Option Broken
 other_argument j call s =
     if nat_eq (slice_index call.arguments j) (register s (10 + j)) then None else broken (slice_index call.arguments j) (register s (10 + j))
 
+-- a write of the call goes to an address that may not be written: the first such address, and the pc
+abbrev pub write_outside : Told → State → Option Broken
+write_outside call s = option_and_then (λ address. broken address s.pc) (outside_of s.memory.regions call.writes)
+
 -- ---- the first broken rule of a step
 
 -- a departure at a step, for a reason, where the rule is broken
@@ -104,6 +118,14 @@ abbrev pub first_of : List (Option Departure) → Option Departure
 first_of [] = None
 first_of (d ∷ ds) = option_or d (first_of ds)
 
+-- the rules of a mark of a step
+abbrev pub departs_for_mark : ℕ → State → Marked → Option Departure
+departs_for_mark i s mark = first_of (departs_for i MarkPc (mark_pc mark s) ∷ departs_for i MarkSum (mark_sum mark s) ∷ [])
+
+-- the rules of the marks of a step, one mark after another
+abbrev pub departs_at_marks : List Marked → ℕ → State → Option Departure
+departs_at_marks marks i s = first_of (map (departs_for_mark i s) marks)
+
 -- the rules of the last step
 abbrev pub departs_at_end : Ending → Option Told → Outcome → ℕ → Option Departure
 departs_at_end end call happens i =
@@ -114,11 +136,14 @@ departs_at_end end call happens i =
 abbrev pub departs_for_argument : Told → ℕ → State → ℕ → Option Departure
 departs_for_argument call i s j = departs_for i (Argument j) (other_argument j call s)
 
--- the rules of a call that the log tells, where the machine stands at one: its number, then its arguments from the first
+-- the rules of a call that the log tells, where the machine stands at one: its number, then its arguments from the first, then its writes
 abbrev pub departs_at_call : Option Told → ℕ → State → Option Departure
 departs_at_call None i s = departs_for i Call (no_call None s)
 departs_at_call (Some call) i s =
-    option_or (departs_for i Number (other_number call s)) (first_of (map (departs_for_argument call i s) (0 ∷ 1 ∷ 2 ∷ 3 ∷ 4 ∷ 5 ∷ [])))
+    first_of
+    (departs_for i Number (other_number call s)
+    ∷ first_of (map (departs_for_argument call i s) (0 ∷ 1 ∷ 2 ∷ 3 ∷ 4 ∷ 5 ∷ []))
+    ∷ departs_for i Outside (write_outside call s) ∷ [])
 
 -- the rules of a step before the last one, by what happens there
 abbrev pub departs_by : Ending → Outcome → Option Told → ℕ → State → Option Departure
@@ -127,12 +152,16 @@ departs_by end StandsAtCall call i s = departs_at_call call i s
 departs_by end (Stop cause) call i s =
     first_of (departs_for i Passed (passed call s) ∷ departs_for i Stopped (stopped end cause) ∷ [])
 
--- where the run departs from its log at a step whose state is this one, if it does
-abbrev pub departs_at : List Entry → ℕ → State → Option Departure
-departs_at entries i s =
+-- the rules of a step beside those of its marks
+abbrev pub departs_unmarked : List Entry → ℕ → State → Option Departure
+departs_unmarked entries i s =
     if nat_lt i (end_of entries).step
     then departs_by (end_of entries) (outcome s) (due entries i) i s
     else departs_at_end (end_of entries) (call_before entries (end_of entries).step) (outcome s) i
+
+-- where the run departs from its log at a step whose state is this one, if it does
+abbrev pub departs_at : List Entry → ℕ → State → Option Departure
+departs_at entries i s = option_or (departs_at_marks (marks_of entries i) i s) (departs_unmarked entries i s)
 
 -- the first of some steps at which the run departs
 abbrev pub first_departure : List Entry → State → List ℕ → Option Departure
@@ -146,6 +175,8 @@ departure_of entries first = first_departure entries first (below ((end_of entri
 
 -- the number that a log has for a departure; where the machine stops early that is the log's last step, and left out
 abbrev pub told_apart : Reason → ℕ → ℕ
+told_apart MarkPc told = told
+told_apart MarkSum told = told
 told_apart EndExit told = told
 told_apart EndValue told = told
 told_apart EndStop told = told
@@ -153,6 +184,7 @@ told_apart Call told = told
 told_apart Passed told = told
 told_apart Number told = told
 told_apart (Argument j) told = told
+told_apart Outside told = told
 told_apart Stopped told = 0
 
 -- a departure without the log's last step

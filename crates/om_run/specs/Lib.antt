@@ -1,4 +1,5 @@
 pub mod Run
 pub mod Departure
+pub mod Table
 pub mod Replay
 pub mod Walk

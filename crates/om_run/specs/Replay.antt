@@ -8,11 +8,12 @@ use Rattle.om_step.specs.declared.outcome.Outcome.{Outcome}
 use Rattle.om_step.specs.declared.outcome.Outcome.TheVariants.{Next, Call, Stop}
 use Rattle.om_step.specs.declared.outcome.Touched.{Touched}
 use Rattle.om_step.specs.declared.outcome.Touched.TheVariants.{Nothing, Call as TouchedCall}
-use Rattle.om_run.specs.Run.{end_of, state_at}
+use Rattle.om_run.specs.Run.{due, end_of, state_at, writes_of}
 use Rattle.om_run.specs.Departure.{departs_at}
 use Rattle.om_run.specs.declared.departure.Departure.{Departure}
 use Rattle.om_run.specs.declared.departure.Halt.{Halt}
 use Rattle.om_run.specs.declared.departure.Halt.TheVariants.{Ended, Departs}
+use Rattle.om_run.specs.declared.told.Told.{Told}
 
 -- the log's entries, the first state of the run, the step at which the replay stands, and the one at which it last counted every page as unwritten
 pub record Place : Type 0 where
@@ -25,16 +26,19 @@ pub record Place : Type 0 where
 abbrev pub here : Place → State
 here place = state_at place.entries place.first place.step
 
--- what a step touches
-abbrev pub touched_by_step : Outcome → Touched
-touched_by_step (Next touched) = touched
-touched_by_step Call = TouchedCall
-touched_by_step (Stop cause) = Nothing
+-- what a step touches, where the log tells this call or none
+abbrev pub touched_by_step : Outcome → Option Told → Touched
+touched_by_step (Next touched) told = touched
+touched_by_step Call told = TouchedCall (writes_of told)
+touched_by_step (Stop cause) told = Nothing
 
 -- what a move answers, by where the run departs at the step: what the step touches, or that it ended
 abbrev pub goes_on : Place → Option Departure → Result Touched Halt
 goes_on place (Some departure) = Err (Departs departure)
-goes_on place None = if nat_lt place.step (end_of place.entries).step then Ok (touched_by_step (outcome (here place))) else Err Ended
+goes_on place None =
+    if nat_lt place.step (end_of place.entries).step
+    then Ok (touched_by_step (outcome (here place)) (due place.entries place.step))
+    else Err Ended
 
 -- what a move answers at a place
 unfoldable pub verdict_at : Place → Result Touched Halt

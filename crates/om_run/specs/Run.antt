@@ -1,6 +1,7 @@
 -- The run that a log tells: the list of its states.
 use Rattle.std.specs.Prelude.{ℕ, zero, suc, ◌+◌, ◌<◌, nat_eq, if◌then◌else◌, List, [], ◌∷◌, ◌++◌, map, Option, Some, None}
 use Rattle.std.specs.Option.{option_map_or}
+use Rattle.om_log.specs.Chunk.{Chunk}
 use Rattle.om_log.specs.Grammar.{step_of}
 use Rattle.om_log.specs.declared.entry.Entry.{Entry}
 use Rattle.om_log.specs.declared.entry.Entry.TheVariants.{Call, Mark, End}
@@ -15,9 +16,22 @@ use Rattle.om_step.specs.declared.outcome.Outcome.TheVariants.{Next, Call as Sta
 abbrev pub due : List Entry → ℕ → Option Told
 due [] i = None
 due (Call step number args result writes ∷ entries) i =
-    if nat_eq step i then Some (record { number = number; arguments = args; result = result }) else due entries i
+    if nat_eq step i then Some (record { number = number; arguments = args; result = result; writes = writes }) else due entries i
 due (Mark step pc sum ∷ entries) i = due entries i
 due (End step cause value ∷ entries) i = due entries i
+
+-- what a mark tells of a state: its pc, and the sum of its registers
+pub record Marked : Type 0 where
+  pub pc : ℕ
+  pub sum : ℕ
+
+-- the marks that a log has of a step, in their order
+abbrev pub marks_of : List Entry → ℕ → List Marked
+marks_of [] i = []
+marks_of (Mark step pc sum ∷ entries) i =
+    if nat_eq step i then record { pc = pc; sum = sum } ∷ marks_of entries i else marks_of entries i
+marks_of (Call step number args result writes ∷ entries) i = marks_of entries i
+marks_of (End step cause value ∷ entries) i = marks_of entries i
 
 -- the end that a log tells; a log that keeps the format's rules tells one
 abbrev pub end_of : List Entry → Ending
@@ -26,10 +40,18 @@ end_of (End step cause value ∷ entries) = record { step = step; cause = cause;
 end_of (Call step number args result writes ∷ entries) = end_of entries
 end_of (Mark step pc sum ∷ entries) = end_of entries
 
--- the state after a step: a call is answered with the result that the log tells
+-- the result of a call, or 0 where there is none
+abbrev pub result_of : Option Told → ℕ
+result_of call = option_map_or (λ (c : Told). c.result) call 0
+
+-- the writes of a call, or none where there is none
+abbrev pub writes_of : Option Told → List Chunk
+writes_of call = option_map_or (λ (c : Told). c.writes) call []
+
+-- the state after a step: a call is answered with the result and the writes that the log tells
 abbrev pub after_by : Outcome → Option Told → State → State
 after_by (Next touched) told s = next s
-after_by StandsAtCall told s = answered s (option_map_or (λ call. call.result) told 0)
+after_by StandsAtCall told s = answered s (result_of told) (writes_of told)
 after_by (Stop cause) told s = s
 
 abbrev pub after_step : List Entry → ℕ → State → State

@@ -3,6 +3,10 @@
 /// The rule that is broken, in the order in which the rules of a step are judged.
 #[derive(Clone, Copy, Debug, PartialEq, Eq)]
 pub enum Reason {
+    /// A mark of the step has another pc.
+    MarkPc,
+    /// A mark of the step has another sum of the registers.
+    MarkSum,
     /// The log ends by exit, but not after a call that exits.
     EndExit,
     /// The exit's value isn't the call's first argument.
@@ -17,6 +21,8 @@ pub enum Reason {
     Number,
     /// This argument of the call is another one, from 0 to 5.
     Argument(u8),
+    /// A byte of a write of the call isn't in a region with the right to write.
+    Outside,
     /// The machine stops before the run ends.
     Stopped,
 }

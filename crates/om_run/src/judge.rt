@@ -4,9 +4,11 @@ ghost use Rattle.std.specs.Prelude.{◌≡◌, ◌+◌, ◌-◌, ◌^◌, ◌<�
 ghost use Rattle.om_step.specs.Step.{outcome};
 ghost use Rattle.om_mem.specs.Pages.{IsKept};
 ghost use Rattle.om_step.specs.State.{held_of};
-ghost use Rattle.om_run.specs.Departure.{is_exit as exits, call_before, departs_at_call, departs_at_end, departs_by, departs_for_argument, end_stop, end_value, end_exit, first_of};
+ghost use Rattle.om_log.specs.Grammar.{AreLawful};
+ghost use Rattle.om_run.specs.Departure.{is_exit as exits, call_before, departs_at_call, departs_at_end, departs_at_marks, departs_by, departs_for, departs_for_argument, departs_for_mark, end_stop, end_value, end_exit, first_of, write_outside};
 ghost use Rattle.om_run.specs.Departure.{stop_code, stops_with};
-ghost use Rattle.om_run.specs.Walk.{end_halt, step_leaves, step_verdict};
+ghost use Rattle.om_run.specs.Run.{marks_of};
+ghost use Rattle.om_run.specs.Walk.{departs_before_writes, end_halt, marks_or_end, step_leaves, step_verdict};
 ghost use Rattle.om_run.specs.declared.told.Told.{Told};
 ghost use Rattle.om_run.specs.declared.told.Ending.{Ending};
 ghost use Rattle.om_step.specs.declared.outcome.Outcome.{Outcome};
@@ -44,10 +46,44 @@ fn broken(step: u64, reason: Reason, told: u32, found: u32) -> Departure
     }
 }
 
+/// Where a mark departs.
+fn judge_mark(machine: &Machine, pc: u32, sum: u32, step: u64) -> Option<Departure>
+    ensures { result ≡ departs_for_mark step machine.now.state (record { pc = pc; sum = sum }) }
+{
+    let found = machine.pc();
+    if pc != found {
+        return Some(broken(step, Reason::MarkPc, pc, found));
+    }
+    let found = machine.sum();
+    if sum != found {
+        return Some(broken(step, Reason::MarkSum, sum, found));
+    }
+    None
+}
+
+/// Where the first mark departs that does, of the marks of a step that no entry is earlier than.
+fn judge_marks(entries: &[Entry<'_>], machine: &Machine, at: u64) -> Option<Departure>
+    requires { AreLawful at entries.now }
+    ensures { result ≡ departs_at_marks (marks_of entries.now at) at machine.now.state }
+{
+    for entry in entries {
+        let Entry::Mark { step, pc, sum } = entry else {
+            return None;
+        };
+        if *step != at {
+            return None;
+        }
+        if let Some(departure) = judge_mark(machine, *pc, *sum, at) {
+            return Some(departure);
+        }
+    }
+    None
+}
+
 /// Where an end by exit departs; `call` is the call of the step before.
-fn judge_exit(value: u32, call: Option<Told>, step: u64) -> Option<Departure>
+fn judge_exit(value: u32, call: Option<Told<'_>>, step: u64) -> Option<Departure>
     ensures { (end : Ending) → end.cause ≡ 0 → end.value ≡ value → (happens : Outcome)
-        → result ≡ departs_at_end end call happens step }
+        → result ≡ departs_at_end end call.entry happens step }
 {
     let (number, first) = match call {
         Some(call) => (call.number, call.arguments[0]),
@@ -63,9 +99,9 @@ fn judge_exit(value: u32, call: Option<Told>, step: u64) -> Option<Departure>
 }
 
 /// Where an end by a stop departs.
-fn judge_stop(value: u32, happens: Outcome, step: u64) -> Option<Departure>
+fn judge_stop(value: u32, happens: Outcome<'_>, step: u64) -> Option<Departure>
     ensures { (end : Ending) → end.cause ≡ 2 → end.value ≡ value → (call : Option Told)
-        → result ≡ departs_at_end end call happens step }
+        → result ≡ departs_at_end end call happens.entry step }
 {
     let Outcome::Stop(cause) = happens else {
         return Some(broken(step, Reason::EndStop, value, 0));
@@ -77,7 +113,7 @@ fn judge_stop(value: u32, happens: Outcome, step: u64) -> Option<Departure>
 }
 
 /// Why the run stops at its last step. Of an exit it searches the entries for the call of the step before.
-pub(crate) fn halt_at_end(entries: &[Entry<'_>], machine: &Machine, end: Ending, step: u64) -> Halt
+fn halt_at_end(entries: &[Entry<'_>], machine: &Machine, end: Ending, step: u64) -> Halt
     ensures { result ≡ end_halt (departs_at_end end (call_before entries.now end.step) (outcome machine.now.state) step) }
 {
     let departure = match end.cause {
@@ -91,9 +127,31 @@ pub(crate) fn halt_at_end(entries: &[Entry<'_>], machine: &Machine, end: Ending,
     }
 }
 
-/// Where a call departs from the one that the log tells.
-fn judge_call(machine: &Machine, call: &Told, step: u64) -> Option<Departure>
-    ensures { result ≡ departs_at_call (Some call.now) step machine.now.state }
+/// Why the run goes no further at a step, by its marks, and then by its end if it is the last one; `rest` has
+/// no entry of an earlier step, and `entries` are all of the log.
+pub(crate) fn halt_before(
+    rest: &[Entry<'_>],
+    entries: &[Entry<'_>],
+    machine: &Machine,
+    end: Ending,
+    step: u64,
+) -> Option<Halt>
+    requires { AreLawful step rest.now }
+    ensures { result ≡ marks_or_end (departs_at_marks (marks_of rest.now step) step machine.now.state)
+        (departs_at_end end (call_before entries.now end.step) (outcome machine.now.state) step) end.step step }
+{
+    if let Some(departure) = judge_marks(rest, machine, step) {
+        return Some(Halt::Departs(departure));
+    }
+    if step >= end.step {
+        return Some(halt_at_end(entries, machine, end, step));
+    }
+    None
+}
+
+/// Where a call departs from the one that the log tells, but for its writes.
+fn judge_call(machine: &Machine, call: &Told<'_>, step: u64) -> Option<Departure>
+    ensures { result ≡ departs_before_writes call.now step machine.now.state }
 {
     let number = machine.reg(CALL_NUMBER);
     if call.number != number {
@@ -103,7 +161,7 @@ fn judge_call(machine: &Machine, call: &Told, step: u64) -> Option<Departure>
 }
 
 /// Where the first argument departs that is another one.
-fn judge_arguments(machine: &Machine, call: &Told, step: u64) -> Option<Departure>
+fn judge_arguments(machine: &Machine, call: &Told<'_>, step: u64) -> Option<Departure>
     ensures { result ≡ first_of (map (departs_for_argument call.now step machine.now.state)
         (0 ∷ 1 ∷ 2 ∷ 3 ∷ 4 ∷ 5 ∷ [])) }
 {
@@ -119,15 +177,15 @@ fn judge_arguments(machine: &Machine, call: &Told, step: u64) -> Option<Departur
 
 /// A step at which the log tells no call; `last` is the run's last step.
 #[inline(always)] // since nearly all steps are such
-pub(crate) fn step_without_call(
+pub(crate) fn step_without_call<'a>(
     machine: &mut Machine,
     last: u64,
     step: u64,
     meter: &mut StepMeter,
-) -> Result<Touched, Halt>
+) -> Result<Touched<'a>, Halt>
     requires { meter.old < 2 ^ 64 - 1 }
     ensures verdict { (end : Ending) → end.step ≡ last → result
-        ≡ step_verdict (departs_by end (outcome machine.old.state) None step machine.old.state) (outcome machine.old.state) }
+        ≡ step_verdict (departs_by end (outcome machine.old.state) None step machine.old.state) (outcome machine.old.state) None }
     ensures machine { machine.new.state ≡ step_leaves result (outcome machine.old.state) None machine.old.state }
     ensures meter { meter.new ≡ meter.old + (if is_ok result then 1 else 0) }
     ensures same { OnErr result (machine.new ≡ machine.old) }
@@ -150,16 +208,43 @@ pub(crate) fn step_without_call(
     }
 }
 
-/// A step at which the log tells a call.
-fn step_with_call(
+/// The answer to a call whose number and arguments are right.
+fn answer<'a>(
     machine: &mut Machine,
-    call: &Told,
+    call: &Told<'a>,
     step: u64,
     meter: &mut StepMeter,
-) -> Result<Touched, Halt>
+) -> Result<Touched<'a>, Halt>
+    requires call { outcome machine.old.state ≡ Outcome.Call }
+    requires meter { meter.old < 2 ^ 64 - 1 }
+    ensures verdict { result ≡ step_verdict (departs_for step Reason.Outside (write_outside call.now machine.old.state))
+        Outcome.Call (Some call.now) }
+    ensures machine { machine.new.state ≡ step_leaves result Outcome.Call (Some call.now) machine.old.state }
+    ensures meter { meter.new ≡ meter.old + (if is_ok result then 1 else 0) }
+    ensures same { OnErr result (machine.new ≡ machine.old) }
+    ensures kept { IsKept (held_of machine.old) (held_of machine.new) }
+{
+    match machine.answer_call(call.result, call.writes.again(), meter) {
+        Ok(touched) => Ok(touched),
+        Err(outside) => Err(Halt::Departs(broken(
+            step,
+            Reason::Outside,
+            outside.addr,
+            machine.pc(),
+        ))),
+    }
+}
+
+/// A step at which the log tells a call.
+fn step_with_call<'a>(
+    machine: &mut Machine,
+    call: &Told<'a>,
+    step: u64,
+    meter: &mut StepMeter,
+) -> Result<Touched<'a>, Halt>
     requires { meter.old < 2 ^ 64 - 1 }
     ensures verdict { (end : Ending) → result
-        ≡ step_verdict (departs_by end (outcome machine.old.state) (Some call.now) step machine.old.state) (outcome machine.old.state) }
+        ≡ step_verdict (departs_by end (outcome machine.old.state) (Some call.now) step machine.old.state) (outcome machine.old.state) (Some call.now) }
     ensures machine { machine.new.state
         ≡ step_leaves result (outcome machine.old.state) (Some call.now) machine.old.state }
     ensures meter { meter.new ≡ meter.old + (if is_ok result then 1 else 0) }
@@ -171,7 +256,7 @@ fn step_with_call(
             if let Some(departure) = judge_call(machine, call, step) {
                 return Err(Halt::Departs(departure));
             }
-            Ok(machine.answer_call(call.result, meter))
+            answer(machine, call, step, meter)
         }
         Outcome::Next(_) | Outcome::Stop(_) => Err(Halt::Departs(broken(
             step,
@@ -183,17 +268,17 @@ fn step_with_call(
 }
 
 /// A step before the last one; `call` is the one that the log tells for it, and `last` the run's last step.
-pub(crate) fn step_by(
+pub(crate) fn step_by<'a>(
     machine: &mut Machine,
-    call: Option<Told>,
+    call: Option<Told<'a>>,
     last: u64,
     step: u64,
     meter: &mut StepMeter,
-) -> Result<Touched, Halt>
+) -> Result<Touched<'a>, Halt>
     requires { meter.old < 2 ^ 64 - 1 }
     ensures verdict { (end : Ending) → end.step ≡ last → result
-        ≡ step_verdict (departs_by end (outcome machine.old.state) call step machine.old.state) (outcome machine.old.state) }
-    ensures machine { machine.new.state ≡ step_leaves result (outcome machine.old.state) call machine.old.state }
+        ≡ step_verdict (departs_by end (outcome machine.old.state) call.entry step machine.old.state) (outcome machine.old.state) call.entry }
+    ensures machine { machine.new.state ≡ step_leaves result (outcome machine.old.state) call.entry machine.old.state }
     ensures meter { meter.new ≡ meter.old + (if is_ok result then 1 else 0) }
     ensures same { OnErr result (machine.new ≡ machine.old) }
     ensures kept { IsKept (held_of machine.old) (held_of machine.new) }

@@ -1,13 +1,22 @@
-//! The laws of a run: what comes later in a log changes nothing before, and what a replay reaches. They
-//! have no code.
+//! The laws of a run: its rules are judged in the order of their table, what comes later in a log changes
+//! nothing before, and what a replay reaches. They have no code.
 
 ghost use Rattle.std.specs.Prelude.{◌≡◌, ◌+◌, ◌<◌, ◌≤◌, ◌++◌, ℕ, List, None};
 ghost use Rattle.std.specs.Option.{option_map};
 ghost use Rattle.om_log.specs.declared.entry.Entry.{Entry};
-ghost use Rattle.om_run.specs.Departure.{first_departure, without_last};
+ghost use Rattle.om_run.specs.Departure.{departs_at, first_departure, without_last};
 ghost use Rattle.om_run.specs.Replay.{beginning, place_after};
 ghost use Rattle.om_run.specs.Run.{AreAfter, below, end_of, state_at};
+ghost use Rattle.om_run.specs.Table.{first_broken, rules_at};
 ghost use Rattle.om_step.specs.State.{State};
+
+/// A run departs at a step by the first rule of the table that is broken there: the table says of each rule
+/// alone when it is broken.
+#[tactic(auto, using(crate::proofs::TableLemmas::all_in_order))]
+pub fn in_order()
+    ensures { (entries : List Entry) (i : ℕ) (s : State) → i ≤ (end_of entries).step
+        → departs_at entries i s ≡ first_broken i (rules_at entries i s) }
+{}
 
 /// Where a run first departs from its log, up to a step before its end, and how, doesn't depend on the
 /// entries of later steps (but that an early stop tells the log's last step), and neither do its states up

@@ -10,6 +10,6 @@ mod tests;
 mod told;
 
 pub use departure::{Departure, Halt, Reason};
-pub use laws::{causality, reach};
+pub use laws::{causality, in_order, reach};
 pub use replay::Replay;
 pub use told::{Ending, Told};

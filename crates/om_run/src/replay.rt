@@ -2,7 +2,6 @@
 
 ghost use Rattle.std.specs.Prelude.{◌≡◌, ◌+◌, ◌-◌, ◌^◌, ◌<◌, ◌≤◌, is_ok, if◌then◌else◌, length, drop, slice_index};
 ghost use Rattle.om_elf.specs.Image.{AreLoadable};
-ghost use Rattle.om_log.specs.Gate.{AreBuilt};
 ghost use Rattle.om_log.specs.Grammar.{IsLawfulLog};
 ghost use Rattle.om_mem.specs.Contents.{overlap_of};
 ghost use Rattle.om_step.specs.First.{first_state, regions_of};
@@ -10,11 +9,11 @@ ghost use Rattle.om_mem.specs.Gives.{Gives};
 ghost use Rattle.om_step.specs.Back.{HaveLengths, IsBack, IsClean};
 ghost use Rattle.om_run.specs.Replay.{IsKeptSince, beginning, here, moved, placed_at, verdict_at};
 ghost use Rattle.om_run.specs.Run.{end_of, state_at};
-ghost use Rattle.om_run.specs.Walk.{behind, due_first, end_of_quiet};
+ghost use Rattle.om_run.specs.Walk.{end_of_quiet};
 
 use crate::departure::Halt;
-use crate::judge::{halt_at_end, step_by, step_without_call};
-use crate::told::{Ending, Told, find_end, skip_to, told_by};
+use crate::judge::{halt_before, step_by, step_without_call};
+use crate::told::{Ending, find_end, first_call, skip_to};
 use om_elf::Elf;
 use om_log::{Entry, Log};
 use om_step::{Core, Machine, MapFault, Pages, StepMeter, Touched};
@@ -33,12 +32,12 @@ pub struct Replay<'a> {
     /// The entries that aren't behind it.
     rest: &'a [Entry<'a>],
     end: Ending,
-    /// Before this step the log tells neither a call nor the end: one test at each step.
+    /// Before this step the log tells nothing: one test at each step.
     quiet_until: u64,
 }
 
 // Clauses see the run and the step. The invariant is that the machine is in the state of the step, and that
-// the rest of the entries tells all calls that are due from there on; and that it knows how far it is quiet.
+// the rest of the entries is what the log has from there on; and that it knows how far it is quiet.
 impl<'a> Model for Replay<'a> {
     ghost use Rattle.std.specs.Prelude.{◌≡◌};
     ghost use Rattle.std.specs.Coded.{codes};
@@ -69,28 +68,13 @@ impl<'a> Model for Replay<'a> {
         × (it.quiet_until ≡ end_of_quiet it.rest.now it.end.step) };
 }
 
-/// The call that the entries begin with, if it is one of this step, and how many entries tell it.
-fn first_call(entries: &[Entry<'_>], at: u64) -> (Option<Told>, usize)
-    ensures call { result.0 ≡ due_first entries.now at }
-    ensures within { result.1 ≤ length entries.now }
-    ensures rest { drop result.1 entries.now ≡ behind entries.now at }
-{
-    let Some(first) = entries.first() else {
-        return (None, 0);
-    };
-    match told_by(first, at) {
-        Some(call) => (Some(call), 1),
-        None => (None, 0),
-    }
-}
-
-/// The step of the call that the entries begin with, or the last step if that is earlier.
+/// The step of the first entry, or the last step if that is earlier.
 fn find_quiet(entries: &[Entry<'_>], last: u64) -> u64
     ensures { result ≡ end_of_quiet entries.now last }
 {
     match entries.first() {
-        Some(Entry::Call { step, .. }) => (*step).min(last),
-        _ => last,
+        Some(entry) => entry.step().min(last),
+        None => last,
     }
 }
 
@@ -101,7 +85,6 @@ impl<'a> Replay<'a> {
     pub fn start(alloc: Global, elf: &'a Elf<'a>, log: &'a Log<'a>) -> Result<Replay<'a>, MapFault>
         requires loadable { AreLoadable elf.now.segments }
         requires log { IsLawfulLog log.now }
-        requires built { AreBuilt log.now.entries }
         ensures { Gives (overlap_of (regions_of elf.now.segments log.now.start))
             (beginning log.now.entries (first_state elf.now log.now.start))
             result }
@@ -124,7 +107,7 @@ impl<'a> Replay<'a> {
     /// One step, judged by the log. At an error nothing changes.
     ///
     /// Errors: `Ended` at the last step; `Departs` where the run departs from its log.
-    pub fn advance(&mut self, meter: &mut StepMeter) -> Result<Touched, Halt>
+    pub fn advance(&mut self, meter: &mut StepMeter) -> Result<Touched<'a>, Halt>
         requires { meter.old < 2 ^ 64 - 1 }
         ensures verdict { result ≡ verdict_at self.old }
         ensures position { self.new ≡ moved self.old result }
@@ -138,27 +121,23 @@ impl<'a> Replay<'a> {
         self.advance_by_entry(meter)
     }
 
-    /// One step at which the log tells a call or the end, or may do so.
+    /// One step at which the log tells something: its marks are judged first, then the end or the step itself.
     #[cold]
-    fn advance_by_entry(&mut self, meter: &mut StepMeter) -> Result<Touched, Halt>
+    fn advance_by_entry(&mut self, meter: &mut StepMeter) -> Result<Touched<'a>, Halt>
         requires { meter.old < 2 ^ 64 - 1 }
         ensures verdict { result ≡ verdict_at self.old }
         ensures position { self.new ≡ moved self.old result }
         ensures meter { meter.new ≡ meter.old + (if is_ok result then 1 else 0) }
     {
-        if self.step >= self.end.step {
-            return Err(halt_at_end(
-                self.log.entries.as_slice(),
-                &self.machine,
-                self.end,
-                self.step,
-            ));
+        let entries = self.log.entries.as_slice();
+        if let Some(halt) = halt_before(self.rest, entries, &self.machine, self.end, self.step) {
+            return Err(halt);
         }
-        let (call, passed) = first_call(self.rest, self.step);
+        let call = first_call(self.rest, self.step);
         let touched = step_by(&mut self.machine, call, self.end.step, self.step, meter)?;
-        self.rest = &self.rest[passed..];
-        self.quiet_until = find_quiet(self.rest, self.end.step);
         self.step += 1;
+        self.rest = skip_to(self.rest, self.step);
+        self.quiet_until = find_quiet(self.rest, self.end.step);
         Ok(touched)
     }
 

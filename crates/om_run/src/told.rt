@@ -4,19 +4,22 @@ ghost use Rattle.std.specs.Prelude.{◌≡◌, ◌∷◌, [], List, if◌then◌
 ghost use Rattle.om_run.specs.Run.{due, end_of};
 ghost use Rattle.om_run.specs.Departure.{call_before};
 ghost use Rattle.om_run.specs.Walk.{from_step};
+ghost use Rattle.om_log.specs.Grammar.{AreLawful};
 ghost use Rattle.om_log.specs.declared.entry.Entry.{Entry};
 
-use om_log::Entry;
+use om_log::{Entry, Writes};
 
 /// What a log tells of a call.
-#[derive(Clone, Copy, Debug, PartialEq, Eq)]
-pub struct Told {
+#[derive(Debug, Drop)]
+pub struct Told<'a> {
     /// The call's number, from a7.
     pub number: u32,
     /// Its arguments, from a0 to a5.
     pub arguments: [u32; 6],
     /// What a0 is afterwards.
     pub result: u32,
+    /// What it wrote into memory, in this order.
+    pub writes: Writes<'a>,
 }
 
 /// What a log tells of its end.
@@ -51,7 +54,7 @@ pub(crate) fn find_end(entries: &[Entry<'_>]) -> Ending
 }
 
 /// What an entry tells, if it is a call of this step.
-pub(crate) fn told_by(entry: &Entry<'_>, at: u64) -> Option<Told>
+fn told_by<'a>(entry: &Entry<'a>, at: u64) -> Option<Told<'a>>
     ensures { result ≡ due (entry.now ∷ []) at }
 {
     match entry {
@@ -60,7 +63,7 @@ pub(crate) fn told_by(entry: &Entry<'_>, at: u64) -> Option<Told>
             number,
             args,
             result,
-            ..
+            writes,
         } => {
             if *step != at {
                 return None;
@@ -69,6 +72,7 @@ pub(crate) fn told_by(entry: &Entry<'_>, at: u64) -> Option<Told>
                 number: *number,
                 arguments: *args,
                 result: *result,
+                writes: writes.again(),
             })
         }
         Entry::Mark { .. } | Entry::End { .. } => None,
@@ -76,7 +80,7 @@ pub(crate) fn told_by(entry: &Entry<'_>, at: u64) -> Option<Told>
 }
 
 /// The call that a log tells for a step. It searches the whole log.
-pub(crate) fn find_call(entries: &[Entry<'_>], at: u64) -> Option<Told>
+fn find_call<'a>(entries: &[Entry<'a>], at: u64) -> Option<Told<'a>>
     ensures { result ≡ due entries.now at }
 {
     for entry in entries {
@@ -88,7 +92,7 @@ pub(crate) fn find_call(entries: &[Entry<'_>], at: u64) -> Option<Told>
 }
 
 /// The call of the step before this one. It searches the whole log.
-pub(crate) fn find_call_before(entries: &[Entry<'_>], at: u64) -> Option<Told>
+pub(crate) fn find_call_before<'a>(entries: &[Entry<'a>], at: u64) -> Option<Told<'a>>
     ensures { result ≡ call_before entries.now at }
 {
     if at == 0 {
@@ -97,27 +101,32 @@ pub(crate) fn find_call_before(entries: &[Entry<'_>], at: u64) -> Option<Told>
     find_call(entries, at - 1)
 }
 
-/// The entries from a step on: without the calls of earlier steps that they begin with.
+/// The call of a step that no entry is earlier than. It passes the marks of that step alone.
+pub(crate) fn first_call<'a>(entries: &[Entry<'a>], at: u64) -> Option<Told<'a>>
+    requires { AreLawful at entries.now }
+    ensures { result ≡ due entries.now at }
+{
+    for entry in entries {
+        if entry.step() != at {
+            return None;
+        }
+        if let Some(call) = told_by(entry, at) {
+            return Some(call);
+        }
+    }
+    None
+}
+
+/// The entries from a step on: without those of earlier steps that they begin with.
 pub(crate) fn skip_to<'a, 'b>(entries: &'a [Entry<'b>], step: u64) -> &'a [Entry<'b>]
     ensures { result.now ≡ from_step step entries.now }
 {
     let mut skipped = 0;
     for entry in entries {
-        if !is_call_before(entry, step) {
+        if entry.step() >= step {
             return &entries[skipped..];
         }
         skipped += 1;
     }
     &entries[skipped..]
-}
-
-/// Whether an entry is a call of an earlier step.
-fn is_call_before(entry: &Entry<'_>, at: u64) -> bool
-    ensures { (others : List Entry) → from_step at (entry.now ∷ others)
-        ≡ (if result then from_step at others else entry.now ∷ others) }
-{
-    match entry {
-        Entry::Call { step, .. } => *step < at,
-        Entry::Mark { .. } | Entry::End { .. } => false,
-    }
 }

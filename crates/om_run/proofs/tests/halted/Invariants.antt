@@ -2,4 +2,4 @@ use Rattle.std.proofs.Common.{◌-◌}
 use Rattle.om_run.proofs.tests.halted.Given as goal
 
 abbrev pub decreases-loop-replay : goal.decreases-loop-replay
-decreases-loop-replay l = 20 - l.meter
+decreases-loop-replay l = l.most - l.meter

@@ -6,6 +6,6 @@ use Rattle.om_run.proofs.replay.Replay.start.Goals as goal
 pub invariant_of-result : goal.invariant_of-result
 invariant_of-result c = (
   rw (c.find_end-end.ensures, c.as_slice-rest.ensures, c.in_ok-machine.ensures.1)
-      (placed_start c.args.log.now.entries (first_state c.args.elf.now c.args.log.now.start) _ c.requires.log.entries c.requires.built refl (clean_first c.args.elf.now c.args.log.now.start)),
+      (placed_start c.args.log.now.entries (first_state c.args.elf.now c.args.log.now.start) _ c.requires.log.entries refl (clean_first c.args.elf.now c.args.log.now.start)),
   c.find_quiet.ensures,
 )

@@ -1,0 +1,8 @@
+use Rattle.std.proofs.Common.{◌≡◌, drop}
+use Rattle.om_log.specs.Grammar.{AreLawful}
+use Rattle.om_run.specs.Run.{due}
+use Rattle.om_run.proofs.told.first_call.Given as goal
+
+abbrev pub invariant-loop-entry : goal.invariant-loop-entry
+invariant-loop-entry l =
+    (due l.entries l.at ≡ due (drop l.entry-index l.entries) l.at) × AreLawful l.at (drop l.entry-index l.entries)
