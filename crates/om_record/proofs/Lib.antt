@@ -1,0 +1,7 @@
+pub mod KernelLemmas
+pub mod TellingLemmas
+pub mod WalkLemmas
+pub mod EndLemmas
+pub mod RunLemmas
+pub mod MadeLemmas
+pub mod LawLemmas

@@ -1,0 +1,11 @@
+use Rattle.om_record.proofs.LawLemmas.{no_departure, same_end, same_states}
+use Rattle.om_record.proofs.laws.never_departs.Goals as goal
+
+pub returns-clause-ending : goal.returns-clause-ending
+returns-clause-ending c = same_end
+
+pub returns-clause-states : goal.returns-clause-states
+returns-clause-states c = same_states
+
+pub returns-clause-departure : goal.returns-clause-departure
+returns-clause-departure c = no_departure

@@ -1,0 +1,3 @@
+pub mod Kernel
+pub mod Recording
+pub mod Walk
