@@ -1,6 +1,6 @@
 -- Names written byte by byte.
 use Rattle.std.proofs.Common.{◌≡◌, ℕ, zero, suc, ◌<◌, List, [], ◌∷◌, ◌++◌, length, take, drop, get_or, refl, sym, ap, subst, ◌∙◌, append_assoc, arith, Ok, Err}
-use Rattle.std.specs.Prelude.{Option, Result}
+use Rattle.std.specs.Prelude.{Option}
 use Rattle.om_io.specs.Writing.{Puts}
 use Rattle.om_io.proofs.PutsLemmas.{puts_then, puts_stops}
 use Rattle.om_io.specs.declared.sink.SinkFail.{SinkFail}

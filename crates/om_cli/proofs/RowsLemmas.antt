@@ -1,17 +1,16 @@
 -- A replay that looks at each state, step by step.
-use Rattle.std.proofs.Common.{◌≡◌, ℕ, zero, suc, ◌+◌, ◌<◌, ◌≤◌, List, [], ◌∷◌, ◌++◌, map, filter, Bool, true, false, nat_lt, nat_eq, refl, sym, ap, subst, ◌∙◌, arith, add-one, if◌then◌else◌, Ok, Err, Some, None}
+use Rattle.std.proofs.Common.{◌≡◌, ℕ, zero, suc, ◌+◌, ◌<◌, ◌≤◌, List, [], ◌∷◌, ◌++◌, filter, Bool, true, false, nat_lt, nat_eq, refl, sym, ap, subst, ◌∙◌, arith, add-one, if◌then◌else◌, Ok, Err, Some, None}
 use Rattle.std.specs.Prelude.{Option, Result}
-use Rattle.std.specs.Option.{option_or, option_map}
+use Rattle.std.specs.Option.{option_or}
 use Rattle.std.proofs.lemmas.List.{map-append}
 use Rattle.std.proofs.lemmas.List.Elements.{filter-append}
 use Rattle.std.proofs.lemmas.Bool.Decides.{nat_tests}
 use Rattle.om_eval.specs.Meaning.{truth}
 use Rattle.om_eval.specs.Row.{row_tuple}
-use Rattle.om_eval.specs.declared.cond.Cond.{Cond}
 use Rattle.om_eval.specs.declared.value.Owned.{Owned}
 use Rattle.om_log.specs.declared.entry.Entry.{Entry}
 use Rattle.om_run.specs.Departure.{departs_at, departure_of, first_departure}
-use Rattle.om_run.specs.Run.{below, end_of, state_at}
+use Rattle.om_run.specs.Run.{due, below, end_of, state_at}
 use Rattle.om_run.specs.Replay.{Place, goes_on, here, touched_by_step, verdict_at}
 use Rattle.om_run.proofs.RunLemmas.{first_departure_append, first_departure_next}
 use Rattle.om_run.specs.declared.departure.Departure.{Departure}
@@ -71,7 +70,7 @@ first_departure-found entries first i (suc n) told h before here =
 moves_on : (place : Place) (found : Option Departure) (touched : Touched) → goes_on place found ≡ Ok touched → (found ≡ None) × (place.step < (end_of place.entries).step)
 moves_on place (Some departure) touched e = cc
 moves_on place None touched e =
-    elim (nat_lt place.step (end_of place.entries).step) as (λ b. nat_lt place.step (end_of place.entries).step ≡ b → ◌≡◌ {A = Result Touched Halt} (if b then Ok (touched_by_step (outcome (here place))) else Err Ended) (Ok touched) → ◌≡◌ {A = Option Departure} None None × (place.step < (end_of place.entries).step)) [
+    elim (nat_lt place.step (end_of place.entries).step) as (λ b. nat_lt place.step (end_of place.entries).step ≡ b → ◌≡◌ {A = Result Touched Halt} (if b then Ok (touched_by_step (outcome (here place)) (due place.entries place.step)) else Err Ended) (Ok touched) → ◌≡◌ {A = Option Departure} None None × (place.step < (end_of place.entries).step)) [
       | true ↦ λ less e. (refl, grind (arith, nat_tests))
       | false ↦ λ less e. cc
     ] refl e
@@ -84,7 +83,7 @@ moves place touched e = moves_on place (departs_at place.entries place.step (her
 ends_on : (place : Place) (found : Option Departure) → goes_on place found ≡ Err Ended → (found ≡ None) × ((end_of place.entries).step ≤ place.step)
 ends_on place (Some departure) e = cc
 ends_on place None e =
-    elim (nat_lt place.step (end_of place.entries).step) as (λ b. nat_lt place.step (end_of place.entries).step ≡ b → ◌≡◌ {A = Result Touched Halt} (if b then Ok (touched_by_step (outcome (here place))) else Err Ended) (Err Ended) → ◌≡◌ {A = Option Departure} None None × ((end_of place.entries).step ≤ place.step)) [
+    elim (nat_lt place.step (end_of place.entries).step) as (λ b. nat_lt place.step (end_of place.entries).step ≡ b → ◌≡◌ {A = Result Touched Halt} (if b then Ok (touched_by_step (outcome (here place)) (due place.entries place.step)) else Err Ended) (Err Ended) → ◌≡◌ {A = Option Departure} None None × ((end_of place.entries).step ≤ place.step)) [
       | true ↦ λ less e. cc
       | false ↦ λ less e. (refl, grind (arith, nat_tests))
     ] refl e
@@ -97,7 +96,7 @@ ends place e = ends_on place (departs_at place.entries place.step (here place)) 
 departs_on : (place : Place) (found : Option Departure) (told : Departure) → goes_on place found ≡ Err (Departs told) → found ≡ Some told
 departs_on place (Some departure) told e = cc
 departs_on place None told e =
-    elim (nat_lt place.step (end_of place.entries).step) as (λ b. ◌≡◌ {A = Result Touched Halt} (if b then Ok (touched_by_step (outcome (here place))) else Err Ended) (Err (Departs told)) → ◌≡◌ {A = Option Departure} None (Some told)) [
+    elim (nat_lt place.step (end_of place.entries).step) as (λ b. ◌≡◌ {A = Result Touched Halt} (if b then Ok (touched_by_step (outcome (here place)) (due place.entries place.step)) else Err Ended) (Err (Departs told)) → ◌≡◌ {A = Option Departure} None (Some told)) [
       | true ↦ λ e. cc
       | false ↦ λ e. cc
     ] e

@@ -11,7 +11,6 @@ use Rattle.om_run.specs.Run.{end_of, state_at, below}
 use Rattle.om_step.specs.State.{State}
 use Rattle.om_table.specs.Text.{text_of}
 use Rattle.om_table.specs.declared.table.Style.TheVariants.{Columns}
-use Rattle.om_table.specs.declared.table.Table.{Table}
 use Rattle.om_cli.specs.View.{row_of}
 use Rattle.om_cli.specs.declared.asked.Question.{Question}
 

@@ -4,14 +4,13 @@ use Rattle.om_elf.specs.declared.fault.ElfFault.{ElfFault}
 use Rattle.om_elf.specs.declared.fault.ElfFault.TheVariants as elf
 use Rattle.om_log.specs.declared.fault.LogFault.{LogFault}
 use Rattle.om_log.specs.declared.fault.LogFault.TheVariants as log
-use Rattle.om_run.specs.declared.departure.Departure.{Departure}
 use Rattle.om_run.specs.declared.departure.Reason.{Reason}
 use Rattle.om_run.specs.declared.departure.Reason.TheVariants as reason
 use Rattle.om_table.specs.Escape.{escaped}
 use Rattle.om_cli.specs.declared.refusal.Part.{Part}
 use Rattle.om_cli.specs.declared.refusal.Part.TheVariants as part
 use Rattle.om_cli.specs.declared.refusal.Refusal.{Refusal}
-use Rattle.om_cli.specs.declared.refusal.Refusal.TheVariants.{Unbuilt, Executable, Log, Overlap, TooLong, Departs}
+use Rattle.om_cli.specs.declared.refusal.Refusal.TheVariants.{Unbuilt, Executable, NoRoom, Log, Overlap, TooLong, LogTooLong, Departs}
 
 -- how the program ends
 pub data End : Type 0 where
@@ -23,6 +22,10 @@ pub data End : Type 0 where
   no_memory : End
   -- the file of this name was not read
   unread : List ℕ → End
+  -- the file of this name has more bytes than are read
+  exceeded : List ℕ → End
+  -- the file of this name was not put
+  unput : List ℕ → End
   -- the text was not written
   unwritten : End
 
@@ -30,9 +33,11 @@ pub data End : Type 0 where
 abbrev pub refusal_status : Refusal → ℕ
 refusal_status (Unbuilt part) = 11
 refusal_status (Executable fault) = 3
+refusal_status (NoRoom a b) = 3
 refusal_status (Log fault) = 5
 refusal_status (Overlap a b) = 5
 refusal_status (TooLong steps) = 7
+refusal_status (LogTooLong step) = 7
 refusal_status (Departs departure) = 6
 
 -- the exit status of an end
@@ -41,18 +46,23 @@ status_of done = 0
 status_of (refused refusal) = refusal_status refusal
 status_of no_memory = 10
 status_of (unread name) = 8
+status_of (exceeded name) = 7
+status_of (unput name) = 9
 status_of unwritten = 9
 
 -- the word for a part
 abbrev pub word_of : Part → List ℕ
 word_of part.Words = codes "words"
 word_of part.Executable = codes "executable"
-word_of part.Log = codes "log"
 word_of part.Query = codes "query"
 
 -- the words for two places that share an address
 abbrev pub overlap_words : (a b : ℕ) → List ℕ
 overlap_words a b = codes "overlap " ++ decimal a ++ codes " " ++ decimal b
+
+-- the words for two regions that have no room
+abbrev pub room_words : (a b : ℕ) → List ℕ
+room_words a b = codes "no room " ++ decimal a ++ codes " " ++ decimal b
 
 -- the words for a fault of an executable
 abbrev pub elf_words : ElfFault → List ℕ
@@ -79,10 +89,11 @@ fault_words log.NoEnd = codes "no end"
 fault_words (log.Trailing at) = codes "trailing at " ++ decimal at
 fault_words log.Region = codes "region"
 fault_words log.NoMemory = []
-fault_words (log.Unbuilt at) = []
 
 -- the words for the rule that is broken
 abbrev pub reason_words : Reason → List ℕ
+reason_words reason.MarkPc = codes "mark pc"
+reason_words reason.MarkSum = codes "mark sum"
 reason_words reason.EndExit = codes "end exit"
 reason_words reason.EndValue = codes "end value"
 reason_words reason.EndStop = codes "end stop"
@@ -90,6 +101,7 @@ reason_words reason.Call = codes "call"
 reason_words reason.Passed = codes "passed"
 reason_words reason.Number = codes "number"
 reason_words (reason.Argument j) = codes "argument " ++ decimal j
+reason_words reason.Outside = codes "outside"
 reason_words reason.Stopped = codes "stopped"
 
 -- the words for the step of a departure
@@ -104,9 +116,11 @@ number_words told found = codes ": log " ++ decimal told ++ codes ", run " ++ de
 unfoldable pub refusal_line : Refusal → List ℕ
 refusal_line (Unbuilt part) = codes "omni: unbuilt: " ++ word_of part
 refusal_line (Executable fault) = codes "omni: executable: " ++ elf_words fault
+refusal_line (NoRoom a b) = codes "omni: executable: " ++ room_words a b
 refusal_line (Log fault) = codes "omni: log: " ++ fault_words fault
 refusal_line (Overlap a b) = codes "omni: log: " ++ overlap_words a b
 refusal_line (TooLong steps) = codes "omni: limit: " ++ decimal steps ++ codes " steps, allowed 4000000"
+refusal_line (LogTooLong step) = codes "omni: limit: log at step " ++ decimal step
 refusal_line (Departs d) = step_words d.step ++ reason_words d.reason ++ number_words d.told d.found
 
 -- the line that is told of an end, with its line end
@@ -115,4 +129,6 @@ line_of done = []
 line_of (refused refusal) = refusal_line refusal ++ 10 ∷ []
 line_of no_memory = codes "omni: memory" ++ 10 ∷ []
 line_of (unread name) = codes "omni: read: " ++ escaped name ++ 10 ∷ []
+line_of (exceeded name) = codes "omni: limit: file " ++ (escaped name ++ (codes " is longer than 67108864" ++ 10 ∷ []))
+line_of (unput name) = codes "omni: write: " ++ escaped name ++ 10 ∷ []
 line_of unwritten = codes "omni: write" ++ 10 ∷ []

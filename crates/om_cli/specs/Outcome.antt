@@ -1,26 +1,23 @@
 -- What a command means, as a function of its words, of the files that it names, and of what these say.
-use Rattle.std.specs.Prelude.{ℕ, ◌+◌, nat_lt, bytes_eq, codes, if◌then◌else◌, List, [], ◌∷◌, length, map, filter, Option, Some, None, Result, Ok, Err}
+use Rattle.std.specs.Prelude.{ℕ, nat_eq, nat_lt, bytes_eq, codes, decimal, if◌then◌else◌, List, [], ◌∷◌, ◌++◌, length, Option, Some, None, Result, Ok, Err}
 use Rattle.om_elf.specs.Executable.{elf_fault, elf_in}
 use Rattle.om_elf.specs.declared.elf.Elf.{Elf}
 use Rattle.om_elf.specs.declared.fault.ElfFault.{ElfFault}
 use Rattle.om_elf.specs.declared.fault.ElfFault.TheVariants as elf
-use Rattle.om_eval.specs.Meaning.{truth}
-use Rattle.om_eval.specs.Row.{Row, row_tuple}
-use Rattle.om_eval.specs.declared.cond.Cond.{Cond}
 use Rattle.om_io.specs.Shelf.{Contents}
 use Rattle.om_log.specs.declared.entry.Entry.{Entry}
 use Rattle.om_log.specs.declared.fault.LogFault.{LogFault}
-use Rattle.om_log.specs.declared.fault.LogFault.TheVariants as log
 use Rattle.om_log.specs.declared.log.Log.{Log}
 use Rattle.om_parse.specs.declared.fault.ParseFault.{ParseFault}
 use Rattle.om_parse.specs.declared.tree.Query.{Query}
 use Rattle.om_mem.specs.Contents.{overlap_of}
+use Rattle.om_record.specs.Recording.{Recording, made, too_long, no_room, recording}
+use Rattle.om_record.specs.declared.recorded.Recorded.{Recorded}
 use Rattle.om_run.specs.Departure.{departure_of}
-use Rattle.om_run.specs.Run.{end_of, state_at, below}
+use Rattle.om_run.specs.Run.{end_of}
 use Rattle.om_run.specs.declared.departure.Departure.{Departure}
 use Rattle.om_step.specs.First.{first_state, regions_of}
 use Rattle.om_step.specs.State.{State}
-use Rattle.om_cli.specs.declared.refusal.Part.{Part}
 use Rattle.om_cli.specs.declared.refusal.Part.TheVariants as part
 use Rattle.om_cli.specs.declared.refusal.Refusal.{Refusal}
 use Rattle.om_cli.specs.declared.refusal.Refusal.TheVariants as refusal
@@ -28,17 +25,39 @@ use Rattle.om_cli.specs.Answer.{answer_text}
 use Rattle.om_cli.specs.Asked.{question_in}
 use Rattle.om_cli.specs.declared.asked.Question.{Question}
 
--- the words of a command that is built: the names of an executable and of a log, and a query
-pub record Asked : Type 0 where
-  pub exe : List ℕ
-  pub log : List ℕ
-  pub sql : List ℕ
+-- what the words ask for
+pub data Request : Type 0 where
+  -- to answer a query, over the files of an executable and of a log
+  queries : (exe log sql : List ℕ) → Request
+  -- to record a run of an executable with an input, and to put its log
+  records : (exe input log : List ℕ) → Request
 
--- what the words ask for, if they are four and the first is `query`
-abbrev pub asked_by : List (List ℕ) → Option Asked
-asked_by (command ∷ exe ∷ log ∷ sql ∷ []) =
-    if bytes_eq command (codes "query") then Some (record { exe = exe; log = log; sql = sql }) else None
-asked_by words = None
+-- the request of four words, by the first of them
+abbrev pub request_by : (command first second third : List ℕ) → Option Request
+request_by command first second third =
+    if bytes_eq command (codes "query") then Some (queries first second third)
+    else if bytes_eq command (codes "record") then Some (records first second third)
+    else None
+
+-- the request of some words, if they are one
+abbrev pub request_of : List (List ℕ) → Option Request
+request_of (command ∷ first ∷ second ∷ third ∷ []) = request_by command first second third
+request_of words = None
+
+-- the names of the two files that a request reads, in their order
+abbrev pub first_file : Request → List ℕ
+first_file (queries exe log sql) = exe
+first_file (records exe input log) = exe
+
+abbrev pub second_file : Request → List ℕ
+second_file (queries exe log sql) = log
+second_file (records exe input log) = input
+
+-- the name of the file that is put, if one is
+abbrev pub file_put : Option Request → Option (List ℕ)
+file_put None = None
+file_put (Some (queries exe log sql)) = None
+file_put (Some (records exe input log)) = Some log
 
 -- the greatest number of bytes of a file that is read
 abbrev pub most_bytes : ℕ
@@ -67,21 +86,25 @@ seen_in (Some files) name = seen_of (files name)
 pub data Outcome : Type 0 where
   -- it prints a text
   prints : List ℕ → Outcome
+  -- it puts a file with these bytes, and then prints a text
+  puts : (name bytes text : List ℕ) → Outcome
   -- it is refused
   refuses : Refusal → Outcome
+  -- it needs a file that has more bytes than are read
+  exceeds : List ℕ → Outcome
   -- it needs a file that isn't there
   misses : List ℕ → Outcome
   -- it depends on contents that aren't told
   depends : Outcome
 
 -- a file is read, and then comes what follows with its bytes
-abbrev pub read_then : List ℕ → Part → Seen → (List ℕ → Outcome) → Outcome
-read_then name part (found bytes) following = following bytes
-read_then name part longer following = refuses (refusal.Unbuilt part)
-read_then name part missing following = misses name
-read_then name part untold following = depends
+abbrev pub read_then : List ℕ → Seen → (List ℕ → Outcome) → Outcome
+read_then name (found bytes) following = following bytes
+read_then name longer following = exceeds name
+read_then name missing following = misses name
+read_then name untold following = depends
 
--- the greatest number of steps that are replayed
+-- the greatest number of steps that are replayed or recorded
 abbrev pub most_steps : ℕ
 most_steps = 4000000
 
@@ -112,13 +135,9 @@ abbrev pub question_of : Result Query ParseFault → Option Question
 question_of (Ok query) = question_in query
 question_of (Err fault) = None
 
--- the refusal of a log
-abbrev pub refused_log : LogFault → Refusal
-refused_log (log.Unbuilt at) = refusal.Unbuilt part.Log
-refused_log fault = refusal.Log fault
-
+-- a log that isn't one is refused, and of another one the overlap is judged
 abbrev pub judged_log : Elf → Result Log LogFault → Option Question → Outcome
-judged_log elf (Err fault) question = refuses (refused_log fault)
+judged_log elf (Err fault) question = refuses (refusal.Log fault)
 judged_log elf (Ok log) question = judged_overlap (overlap_of (regions_of elf.segments log.start)) elf log question
 
 -- the refusal of an executable
@@ -134,13 +153,45 @@ judged_elf None elf log question = judged_log elf log question
 unfoldable pub judged : List ℕ → Result Log LogFault → Result Query ParseFault → Outcome
 judged exe log query = judged_elf (elf_fault exe) (elf_in exe) log (question_of query)
 
--- what the words come to over the files that are told, where the log and the query are read so
-abbrev pub outcome_for : Option Asked → Option Contents → Result Log LogFault → Result Query ParseFault → Outcome
-outcome_for None files log query = refuses (refusal.Unbuilt part.Words)
-outcome_for (Some asked) files log query =
-    read_then asked.exe part.Executable (seen_in files asked.exe) (λ exe.
-    read_then asked.log part.Log (seen_in files asked.log) (λ bytes.
-    judged exe log query))
+-- ---- recording
 
+-- the word for the cause of an end
+abbrev pub cause_word : ℕ → List ℕ
+cause_word cause = if nat_eq cause 0 then codes "exit" else if nat_eq cause 1 then codes "cut" else codes "stop"
+
+-- the line for a log that was made: its last step, and how it ends
+abbrev pub summary : Recorded → List ℕ
+summary r = codes "steps " ++ decimal r.steps ++ codes " end " ++ cause_word r.cause ++ codes " " ++ decimal r.value ++ 10 ∷ []
+
+-- a log that was made is put under this name
+abbrev pub put_under : List ℕ → Recording → Outcome
+put_under name (made r) = puts name r.bytes (summary r)
+put_under name (too_long step) = refuses (refusal.LogTooLong step)
+put_under name (no_room a b) = refuses (refusal.NoRoom a b)
+
+abbrev pub recorded_elf : Option ElfFault → Elf → (input name : List ℕ) → Outcome
+recorded_elf (Some fault) elf input name = refuses (refused_elf fault)
+recorded_elf None elf input name = put_under name (recording elf input most_steps)
+
+-- what a recording comes to over the bytes of an executable and of an input
+unfoldable pub recorded_run : (exe input name : List ℕ) → Outcome
+recorded_run exe input name = recorded_elf (elf_fault exe) (elf_in exe) input name
+
+-- ---- all commands
+
+-- what a request comes to over the bytes of its two files, where a log and a query are read so
+abbrev pub outcome_with : Request → Result Log LogFault → Result Query ParseFault → (first second : List ℕ) → Outcome
+outcome_with (queries exe log sql) read query first second = judged first read query
+outcome_with (records exe input log) read query first second = recorded_run first second log
+
+-- what a request comes to over the files that are told
+abbrev pub outcome_for : Option Request → Option Contents → Result Log LogFault → Result Query ParseFault → Outcome
+outcome_for None files log query = refuses (refusal.Unbuilt part.Words)
+outcome_for (Some request) files log query =
+    read_then (first_file request) (seen_in files (first_file request)) (λ first.
+    read_then (second_file request) (seen_in files (second_file request)) (λ second.
+    outcome_with request log query first second))
+
+-- what the words come to over the files that are told, where the log and the query are read so
 abbrev pub outcome_of : List (List ℕ) → Option Contents → Result Log LogFault → Result Query ParseFault → Outcome
-outcome_of words files log query = outcome_for (asked_by words) files log query
+outcome_of words files log query = outcome_for (request_of words) files log query

@@ -1,5 +1,5 @@
 -- What reading one file answers, and what the parts of the program answer above it.
-use Rattle.std.specs.Prelude.{◌≡◌, ℕ, ◌⊎◌, List, Option, Some, None, Result, Ok, Err}
+use Rattle.std.specs.Prelude.{◌≡◌, ◌≢◌, ℕ, ◌<◌, slice_index, ◌⊎◌, List, Option, Some, None, Result, Ok, Err}
 use Rattle.om_io.specs.Counts.{Rose}
 use Rattle.om_io.specs.Shelf.{Contents}
 use Rattle.om_elf.specs.declared.fault.ElfFault.{ElfFault}
@@ -9,30 +9,40 @@ use Rattle.om_log.specs.declared.fault.LogFault.TheVariants as log
 use Rattle.om_log.specs.declared.log.Log.{Log}
 use Rattle.om_parse.specs.declared.fault.ParseFault.{ParseFault}
 use Rattle.om_parse.specs.declared.tree.Query.{Query}
-use Rattle.om_cli.specs.Outcome.{Asked, Outcome, Seen, found, longer, missing, untold, prints, refuses, depends, asked_by, seen_in, outcome_of, refused_elf, refused_log}
+use Rattle.om_record.specs.declared.recorded.Recorded.{Recorded}
+use Rattle.om_record.specs.declared.recorded.RecordFault.{RecordFault}
+use Rattle.om_record.specs.declared.recorded.RecordFault.TheVariants as recorder
+use Rattle.om_cli.specs.Outcome.{Request, queries, records, Outcome, Seen, found, longer, untold, prints, puts, refuses, exceeds, depends, refused_elf, seen_in, summary}
+use Rattle.om_cli.specs.Lines.{End, refused, no_memory, unread, exceeded}
 use Rattle.om_cli.specs.Readings.{IsLogReading, IsQueryReading}
-use Rattle.om_cli.specs.declared.refusal.Part.{Part}
 use Rattle.om_cli.specs.declared.refusal.Refusal.{Refusal}
-use Rattle.om_cli.specs.declared.refusal.Refusal.TheVariants.{Unbuilt}
+use Rattle.om_cli.specs.declared.refusal.Refusal.TheVariants as refusal
+use Rattle.om_cli.specs.declared.refusal.Part.TheVariants as part
 use Rattle.om_cli.specs.declared.refused.Refused.{Refused}
-use Rattle.om_cli.specs.declared.refused.Refused.TheVariants.{NoMemory, Because, Unread}
+use Rattle.om_cli.specs.declared.refused.Refused.TheVariants.{NoMemory, Because, Unread, Exceeded}
 
 -- these are the file's bytes, if anything is seen of it
 abbrev pub IsMet : Seen → List ℕ → Type 0
 IsMet seen bytes = (seen ≡ found bytes) ⊎ (seen ≡ untold)
 
--- what reading the file of a name for a part answers, where its count of failed takes went from one value to another
-abbrev pub Reads : Seen → List ℕ → Part → (before now : ℕ) → Result (List ℕ) Refused → Type 0
-Reads seen name part before now (Ok bytes) = IsMet seen bytes
-Reads seen name part before now (Err NoMemory) = Unit {0}
-Reads seen name part before now (Err (Because told)) = (told ≡ Unbuilt part) × ((seen ≡ longer) ⊎ (seen ≡ untold))
-Reads seen name part before now (Err (Unread told)) = (told.now ≡ name) × Rose before now
+-- what reading the file of a name answers, where its count of failed takes went from one value to another
+abbrev pub Reads : Seen → List ℕ → (before now : ℕ) → Result (List ℕ) Refused → Type 0
+Reads seen name before now (Ok bytes) = IsMet seen bytes
+Reads seen name before now (Err NoMemory) = Unit {0}
+Reads seen name before now (Err (Because refusal)) = ⊥
+Reads seen name before now (Err (Unread told)) = (told.now ≡ name) × Rose before now
+Reads seen name before now (Err (Exceeded told)) = (told.now ≡ name) × ((seen ≡ longer) ⊎ (seen ≡ untold))
 
--- the log and the query are read so, where the bytes of the log are seen
-abbrev pub AreReadings : Option Asked → Option Contents → Result Log LogFault → Result Query ParseFault → Type 0
-AreReadings None files log query = Unit {0}
-AreReadings (Some asked) files log query =
-    ((bytes : List ℕ) → seen_in files asked.log ≡ found bytes → IsLogReading bytes log) × IsQueryReading asked.sql query
+-- the log and the query are read so, where the bytes of the log are seen, and are bytes
+abbrev pub AreReadingsOf : Request → Option Contents → Result Log LogFault → Result Query ParseFault → Type 0
+AreReadingsOf (queries exe log sql) files read query =
+    ((bytes : List ℕ) → seen_in files log ≡ found bytes → ((i : ℕ) → slice_index bytes i < 256) → IsLogReading bytes read)
+    × IsQueryReading sql query
+AreReadingsOf (records exe input log) files read query = Unit {0}
+
+abbrev pub AreReadings : Option Request → Option Contents → Result Log LogFault → Result Query ParseFault → Type 0
+AreReadings None files read query = Unit {0}
+AreReadings (Some request) files read query = AreReadingsOf request files read query
 
 -- the answer is the text of what a query comes to, its refusal, or want of memory
 abbrev pub GivesText : Outcome → Result (List ℕ) Refused → Type 0
@@ -40,25 +50,51 @@ GivesText outcome (Ok text) = outcome ≡ prints text
 GivesText outcome (Err NoMemory) = Unit {0}
 GivesText outcome (Err (Because refusal)) = outcome ≡ refuses refusal
 GivesText outcome (Err (Unread name)) = ⊥
+GivesText outcome (Err (Exceeded name)) = ⊥
 
--- the answer is a text or a refusal of what the words come to
-abbrev pub GivesAnswer : Outcome → Result (List ℕ) Refused → Type 0
-GivesAnswer outcome (Ok text) = (outcome ≡ prints text) ⊎ (outcome ≡ depends)
-GivesAnswer outcome (Err NoMemory) = Unit {0}
-GivesAnswer outcome (Err (Because refusal)) = (outcome ≡ refuses refusal) ⊎ (outcome ≡ depends)
-GivesAnswer outcome (Err (Unread name)) = Unit {0}
+-- the answer is the log of what a recording under a name comes to, its refusal, or want of memory
+abbrev pub GivesLog : Outcome → List ℕ → Result Recorded Refused → Type 0
+GivesLog outcome name (Ok recorded) = outcome ≡ puts name recorded.bytes (summary recorded)
+GivesLog outcome name (Err NoMemory) = Unit {0}
+GivesLog outcome name (Err (Because refusal)) = outcome ≡ refuses refusal
+GivesLog outcome name (Err (Unread told)) = ⊥
+GivesLog outcome name (Err (Exceeded told)) = ⊥
 
--- a file is unread only where the order of reads comes to it, and its count of failed takes rose
+-- a command is refused for something that it comes to
+abbrev pub IsRefused : Outcome → Refused → Type 0
+IsRefused outcome NoMemory = Unit {0}
+IsRefused outcome (Because refusal) = (outcome ≡ refuses refusal) ⊎ (outcome ≡ depends)
+IsRefused outcome (Unread name) = Unit {0}
+IsRefused outcome (Exceeded name) = (outcome ≡ exceeds name.now) ⊎ (outcome ≡ depends)
+
+-- the answer is a text or a refusal of what a query comes to
+abbrev pub AnswersText : Outcome → Result (List ℕ) Refused → Type 0
+AnswersText outcome (Ok text) = (outcome ≡ prints text) ⊎ (outcome ≡ depends)
+AnswersText outcome (Err why) = IsRefused outcome why
+
+-- the answer is a log or a refusal of what a recording under a name comes to
+abbrev pub AnswersLog : Outcome → List ℕ → Result Recorded Refused → Type 0
+AnswersLog outcome name (Ok recorded) =
+    (outcome ≡ puts name recorded.bytes (summary recorded)) ⊎ (outcome ≡ depends)
+AnswersLog outcome name (Err why) = IsRefused outcome why
+
+-- the refusal is one of a request: not that the words are none
+abbrev pub IsOfRequest : Refusal → Type 0
+IsOfRequest why = why ≢ refusal.Unbuilt part.Words
+
+-- what shows that a request is refused for its cause: the order of reads comes to the file, and where that is unread its count of failed takes rose
 abbrev pub IsUnread : (List ℕ → Type 0) → (before now : List ℕ → ℕ) → Refused → Type 0
 IsUnread comes before now NoMemory = Unit {0}
-IsUnread comes before now (Because refusal) = Unit {0}
+IsUnread comes before now (Because why) = IsOfRequest why
 IsUnread comes before now (Unread name) = comes name.now × Rose (before name.now) (now name.now)
+IsUnread comes before now (Exceeded name) = comes name.now
 
--- no file is unread
+-- no file is refused, and the refusal is one of a request
 abbrev pub HasRead : Refused → Type 0
 HasRead NoMemory = Unit {0}
-HasRead (Because refusal) = Unit {0}
+HasRead (Because why) = IsOfRequest why
 HasRead (Unread name) = ⊥
+HasRead (Exceeded name) = ⊥
 
 -- what a fault of an executable comes to: want of memory, or a refusal
 abbrev pub refused_by_elf : ElfFault → Refused
@@ -68,4 +104,22 @@ refused_by_elf fault = Because (refused_elf fault)
 -- what a fault of a log comes to: want of memory, or a refusal
 abbrev pub refused_by : LogFault → Refused
 refused_by log.NoMemory = NoMemory
-refused_by fault = Because (refused_log fault)
+refused_by fault = Because (refusal.Log fault)
+
+-- what a fault of recording comes to: want of memory, or a refusal
+abbrev pub refused_by_recorder : RecordFault → Refused
+refused_by_recorder recorder.NoMemory = NoMemory
+refused_by_recorder (recorder.TooLong step) = Because (refusal.LogTooLong step)
+refused_by_recorder (recorder.NoRoom a b) = Because (refusal.NoRoom a b)
+
+-- what a recorder's answer comes to
+abbrev pub told_by_recorder : Result Recorded RecordFault → Result Recorded Refused
+told_by_recorder (Ok recorded) = Ok recorded
+told_by_recorder (Err fault) = Err (refused_by_recorder fault)
+
+-- how a command ends that is refused
+abbrev pub end_of_refused : Refused → End
+end_of_refused NoMemory = no_memory
+end_of_refused (Because refusal) = refused refusal
+end_of_refused (Unread name) = unread name.now
+end_of_refused (Exceeded name) = exceeded name.now

@@ -1,11 +1,13 @@
 -- What the program leaves at its end.
-use Rattle.std.specs.Prelude.{◌≡◌, ℕ, ◌⊎◌, List, Option, Some, None}
+use Rattle.std.specs.Prelude.{◌≡◌, ℕ, ◌⊎◌, List, Option, Some, None, IfSome}
 use Rattle.std.specs.Io.KnownBytes.{Appends, Keeps}
 use Rattle.om_io.specs.Counts.{Rose}
-use Rattle.om_io.specs.Shelf.{Contents}
+use Rattle.om_io.specs.Shelf.{Contents, Holds}
 use Rattle.om_io.specs.Sink.{AppendsPrefix}
-use Rattle.om_cli.specs.Lines.{End, done, refused, no_memory, unread, unwritten}
-use Rattle.om_cli.specs.Outcome.{Asked, Outcome, Seen, asked_by, seen_in, prints, refuses, misses, depends, found, longer, missing, untold}
+use Rattle.om_cli.specs.Lines.{End, done, refused, no_memory, unread, exceeded, unput, unwritten}
+use Rattle.om_cli.specs.declared.refusal.Part.TheVariants.{Words}
+use Rattle.om_cli.specs.declared.refusal.Refusal.TheVariants.{Unbuilt}
+use Rattle.om_cli.specs.Outcome.{Request, Outcome, Seen, first_file, second_file, file_put, seen_in, prints, puts, refuses, exceeds, misses, depends, found, longer, missing, untold}
 
 -- the end is one of what the command comes to; want of memory and an unread file may be ends of each
 abbrev pub IsEndOf : Outcome → End → Type 0
@@ -14,15 +16,33 @@ IsEndOf outcome (unread name) = Unit {0}
 IsEndOf (prints text) done = Unit {0}
 IsEndOf (prints text) unwritten = Unit {0}
 IsEndOf (prints text) (refused refusal) = ⊥
+IsEndOf (prints text) (exceeded name) = ⊥
+IsEndOf (prints text) (unput name) = ⊥
+IsEndOf (puts name bytes text) done = Unit {0}
+IsEndOf (puts name bytes text) unwritten = Unit {0}
+IsEndOf (puts name bytes text) (unput told) = told ≡ name
+IsEndOf (puts name bytes text) (refused refusal) = ⊥
+IsEndOf (puts name bytes text) (exceeded told) = ⊥
 IsEndOf (refuses refusal) (refused told) = told ≡ refusal
 IsEndOf (refuses refusal) done = ⊥
 IsEndOf (refuses refusal) unwritten = ⊥
+IsEndOf (refuses refusal) (exceeded name) = ⊥
+IsEndOf (refuses refusal) (unput name) = ⊥
+IsEndOf (exceeds name) (exceeded told) = told ≡ name
+IsEndOf (exceeds name) done = ⊥
+IsEndOf (exceeds name) unwritten = ⊥
+IsEndOf (exceeds name) (refused refusal) = ⊥
+IsEndOf (exceeds name) (unput told) = ⊥
 IsEndOf (misses name) done = ⊥
-IsEndOf (misses name) (refused refusal) = ⊥
 IsEndOf (misses name) unwritten = ⊥
+IsEndOf (misses name) (refused refusal) = ⊥
+IsEndOf (misses name) (exceeded told) = ⊥
+IsEndOf (misses name) (unput told) = ⊥
 IsEndOf depends done = Unit {0}
-IsEndOf depends (refused refusal) = Unit {0}
 IsEndOf depends unwritten = Unit {0}
+IsEndOf depends (refused refusal) = Unit {0}
+IsEndOf depends (exceeded name) = Unit {0}
+IsEndOf depends (unput name) = Unit {0}
 
 -- what is seen of a file lets the order of reads go on past it
 abbrev pub IsPassed : Seen → Type 0
@@ -31,40 +51,103 @@ IsPassed longer = ⊥
 IsPassed missing = ⊥
 IsPassed untold = Unit {0}
 
--- the order of reads comes to the file of this name: the executable's, or the log's after the executable
-abbrev pub ReadsFile : Option Asked → Option Contents → List ℕ → Type 0
+-- of two files that are read in turn, the order of reads comes to the one of this name: the first one, or the second one after it
+abbrev pub ReadsPair : (first second : List ℕ) → Option Contents → List ℕ → Type 0
+ReadsPair first second files name = (name ≡ first) ⊎ ((name ≡ second) × IsPassed (seen_in files first))
+
+-- the order of reads comes to the file of this name
+abbrev pub ReadsFile : Option Request → Option Contents → List ℕ → Type 0
 ReadsFile None files name = ⊥
-ReadsFile (Some asked) files name = (name ≡ asked.exe) ⊎ ((name ≡ asked.log) × IsPassed (seen_in files asked.exe))
+ReadsFile (Some request) files name = ReadsPair (first_file request) (second_file request) files name
 
-abbrev pub ComesTo : List (List ℕ) → Option Contents → List ℕ → Type 0
-ComesTo words files name = ReadsFile (asked_by words) files name
+-- the counts of the outside: of each name the failed takes and the failed puts, and the faults of the sink
+pub record Counts : Type 0 where
+  pub takes : List ℕ → ℕ
+  pub puts : List ℕ → ℕ
+  pub faults : ℕ
 
--- the cause of a fault of the outside: the order comes to that file and its count of failed takes rose, or the sink's count of faults rose
-abbrev pub HasCause : (List ℕ → Type 0) → (takes_before takes_now : List ℕ → ℕ) → (faults_before faults_now : ℕ) → End → Type 0
-HasCause comes takes_before takes_now faults_before faults_now done = Unit {0}
-HasCause comes takes_before takes_now faults_before faults_now (refused refusal) = Unit {0}
-HasCause comes takes_before takes_now faults_before faults_now no_memory = Unit {0}
-HasCause comes takes_before takes_now faults_before faults_now (unread name) = comes name × Rose (takes_before name) (takes_now name)
-HasCause comes takes_before takes_now faults_before faults_now unwritten = Rose faults_before faults_now
+-- the cause of an end: the order comes to that file, and where it is unread its count of failed takes rose, the request puts that file and its count of failed puts rose, or the sink's count of faults rose
+abbrev pub HasCause : Option Request → Option Contents → (before after : Counts) → End → Type 0
+HasCause request files before after done = Unit {0}
+HasCause request files before after (refused why) = why ≡ Unbuilt Words → request ≡ None
+HasCause request files before after (exceeded name) = ReadsFile request files name
+HasCause request files before after no_memory = Unit {0}
+HasCause request files before after (unread name) = ReadsFile request files name × Rose (before.takes name) (after.takes name)
+HasCause request files before after (unput name) = (file_put request ≡ Some name) × Rose (before.puts name) (after.puts name)
+HasCause request files before after unwritten = Rose before.faults after.faults
+
+-- the cause of a fault of putting the file of a name and of printing
+abbrev pub IsPutCause : List ℕ → (before after : Counts) → End → Type 0
+IsPutCause name before after done = Unit {0}
+IsPutCause name before after (refused refusal) = ⊥
+IsPutCause name before after (exceeded told) = ⊥
+IsPutCause name before after no_memory = Unit {0}
+IsPutCause name before after (unread told) = ⊥
+IsPutCause name before after (unput told) = (told ≡ name) × Rose (before.puts name) (after.puts name)
+IsPutCause name before after unwritten = Rose before.faults after.faults
 
 -- what was printed, from old to new: all of the text at `done`, a prefix of it where writing or memory failed, nothing at a refusal
 abbrev pub Prints : Outcome → (old new : Option (List ℕ)) → End → Type 0
 Prints (prints text) old new done = Appends old new text
 Prints (prints text) old new unwritten = AppendsPrefix old new text
 Prints (prints text) old new no_memory = AppendsPrefix old new text
+Prints (puts name bytes text) old new done = Appends old new text
+Prints (puts name bytes text) old new unwritten = AppendsPrefix old new text
+Prints (puts name bytes text) old new no_memory = AppendsPrefix old new text
 Prints (refuses refusal) old new done = ⊥
 Prints (refuses refusal) old new unwritten = ⊥
 Prints (refuses refusal) old new no_memory = Keeps old new
+Prints (exceeds name) old new done = ⊥
+Prints (exceeds name) old new unwritten = ⊥
+Prints (exceeds name) old new no_memory = Keeps old new
 Prints (misses name) old new done = ⊥
 Prints (misses name) old new unwritten = ⊥
 Prints (misses name) old new no_memory = Keeps old new
-Prints depends old new done = Unit {0}
-Prints depends old new unwritten = Unit {0}
-Prints depends old new no_memory = Unit {0}
+Prints depends old new done = (text : List ℕ) × Appends old new text
+Prints depends old new unwritten = (text : List ℕ) × Appends old new text
+Prints depends old new no_memory = (text : List ℕ) × Appends old new text
 Prints outcome old new (refused refusal) = Keeps old new
+Prints outcome old new (exceeded name) = Keeps old new
 Prints outcome old new (unread name) = Keeps old new
+Prints outcome old new (unput name) = Keeps old new
 
--- an end of what a command comes to, and what it left on the sink
-pub record Ends (outcome : Outcome) (old new : Option (List ℕ)) (end : End) : Type 0 where
+-- the end is one at which nothing was printed or tried to be
+abbrev pub IsSilent : End → Type 0
+IsSilent done = ⊥
+IsSilent unwritten = ⊥
+IsSilent no_memory = ⊥
+IsSilent (refused refusal) = Unit {0}
+IsSilent (exceeded name) = Unit {0}
+IsSilent (unread name) = Unit {0}
+IsSilent (unput name) = Unit {0}
+
+-- what the shelf holds, from old to new: the file that is put, once the command came to that; else what it held
+abbrev pub Leaves : Outcome → (old new : Option Contents) → End → Type 0
+Leaves (puts name bytes text) old new done = IfSome old (λ files. Holds files new name bytes)
+Leaves (puts name bytes text) old new unwritten = IfSome old (λ files. Holds files new name bytes)
+Leaves (puts name bytes text) old new no_memory = IfSome old (λ files. (new ≡ old) ⊎ Holds files new name bytes)
+Leaves depends old new done = Unit {0}
+Leaves depends old new unwritten = Unit {0}
+Leaves depends old new no_memory = Unit {0}
+Leaves (prints text) old new done = new ≡ old
+Leaves (prints text) old new unwritten = new ≡ old
+Leaves (prints text) old new no_memory = new ≡ old
+Leaves (refuses refusal) old new done = new ≡ old
+Leaves (refuses refusal) old new unwritten = new ≡ old
+Leaves (refuses refusal) old new no_memory = new ≡ old
+Leaves (exceeds name) old new done = new ≡ old
+Leaves (exceeds name) old new unwritten = new ≡ old
+Leaves (exceeds name) old new no_memory = new ≡ old
+Leaves (misses name) old new done = new ≡ old
+Leaves (misses name) old new unwritten = new ≡ old
+Leaves (misses name) old new no_memory = new ≡ old
+Leaves outcome old new (refused refusal) = new ≡ old
+Leaves outcome old new (exceeded name) = new ≡ old
+Leaves outcome old new (unread name) = new ≡ old
+Leaves outcome old new (unput name) = new ≡ old
+
+-- an end of what a command comes to, what it printed from old to new, and what the shelf held before and holds now
+pub record Ends (outcome : Outcome) (old new : Option (List ℕ)) (before now : Option Contents) (end : End) : Type 0 where
   pub is_end : IsEndOf outcome end
   pub printed : Prints outcome old new end
+  pub left : Leaves outcome before now end

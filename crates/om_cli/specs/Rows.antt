@@ -1,5 +1,5 @@
 -- What a replay answers.
-use Rattle.std.specs.Prelude.{◌≡◌, ℕ, List, Option, Some, None, Result, Ok, Err}
+use Rattle.std.specs.Prelude.{◌≡◌, List, Option, Some, None, Result, Ok, Err}
 use Rattle.om_eval.specs.declared.value.Owned.{Owned}
 use Rattle.om_log.specs.declared.entry.Entry.{Entry}
 use Rattle.om_run.specs.Departure.{departure_of}

@@ -1,7 +1,9 @@
 -- The request that the code's value stands for.
-use Rattle.om_cli.specs.Outcome.{Asked}
-use Rattle.om_cli.specs.declared.words.Request.{Request}
+use Rattle.om_cli.specs.Outcome.{Request, queries, records}
+use Rattle.om_cli.specs.declared.words.Request.{Request as Words}
+use Rattle.om_cli.specs.declared.words.Request.TheVariants.{Query, Record}
 
 -- the names and the query of a request
-abbrev pub asked_of : Request → Asked
-asked_of request = record { exe = request.exe.now; log = request.log.now; sql = request.sql.now }
+abbrev pub asked_by : Words → Request
+asked_by (Query exe log sql) = queries exe.now log.now sql.now
+asked_by (Record exe input log) = records exe.now input.now log.now

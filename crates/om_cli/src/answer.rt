@@ -1,6 +1,6 @@
 //! Answers a query over the bytes of an executable and of a log.
 
-ghost use Rattle.std.specs.Prelude.{◌≡◌, Result, IfErr, IfOk, IfSome};
+ghost use Rattle.std.specs.Prelude.{◌≡◌, ◌<◌, ℕ, Result, IfErr, IfOk, IfSome, slice_index};
 ghost use Rattle.om_cli.specs.Named.{IsNamed};
 ghost use Rattle.om_cli.specs.Outcome as spec;
 ghost use Rattle.om_cli.specs.Outcome.{judged, judged_overlap, judged_run};
@@ -8,7 +8,6 @@ ghost use Rattle.om_cli.specs.Readings.{IsLogReading, IsQueryReading};
 ghost use Rattle.om_cli.specs.Reads as reads;
 ghost use Rattle.om_cli.specs.Reads.{GivesText, HasRead};
 ghost use Rattle.om_elf.specs.Image.{AreLoadable};
-ghost use Rattle.om_log.specs.Gate.{AreBuilt};
 ghost use Rattle.om_log.specs.Grammar.{IsLawfulLog};
 ghost use Rattle.om_log.specs.declared.fault.LogFault.{LogFault};
 ghost use Rattle.om_log.specs.declared.log.Log.{Log};
@@ -87,7 +86,6 @@ fn answer_query<'a>(
 ) -> Result<Text, Refused<'a>>
     requires loadable { AreLoadable elf.now.segments }
     requires lawful { IsLawfulLog log.now }
-    requires built { AreBuilt log.now.entries }
     ensures read { IfErr result HasRead }
     ensures text { (query : Result Query ParseFault) → IsQueryReading sql.now query
         → GivesText (judged_overlap (overlap_of (regions_of elf.now.segments log.now.start)) elf.now log.now (spec.question_of query)) result }
@@ -105,8 +103,9 @@ fn answer_query<'a>(
 }
 
 /// What a fault of an executable comes to.
-fn refused_by_elf<'a>(fault: ElfFault) -> Refused<'a>
-    ensures { result ≡ reads.refused_by_elf fault }
+pub fn refused_by_elf<'a>(fault: ElfFault) -> Refused<'a>
+    ensures refused { result ≡ reads.refused_by_elf fault }
+    ensures read { HasRead result }
 {
     match fault {
         ElfFault::NoMemory => Refused::NoMemory,
@@ -117,11 +116,11 @@ fn refused_by_elf<'a>(fault: ElfFault) -> Refused<'a>
 
 /// What a fault of a log comes to.
 fn refused_by<'a>(fault: LogFault) -> Refused<'a>
-    ensures { result ≡ reads.refused_by fault }
+    ensures refused { result ≡ reads.refused_by fault }
+    ensures read { HasRead result }
 {
     match fault {
         LogFault::NoMemory => Refused::NoMemory,
-        LogFault::Unbuilt { .. } => Refused::Because(Refusal::Unbuilt(Part::Log)),
         _ => Refused::Because(Refusal::Log(fault)),
     }
 }
@@ -135,6 +134,7 @@ pub fn answer_text<'a>(
     sql: &[u8],
 ) -> Result<Text, Refused<'a>>
     ensures read { IfErr result HasRead }
+    ensures bytes { (i : ℕ) → slice_index log.now i < 256 }
     ensures text { (log_read : Result Log LogFault) (query : Result Query ParseFault) → IsLogReading log.now log_read
         → IsQueryReading sql.now query → GivesText (judged exe.now log_read query) result }
 {

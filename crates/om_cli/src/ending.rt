@@ -22,25 +22,29 @@ pub enum Ending<'a> {
     NoMemory,
     /// The file of this name was not read.
     Unread(&'a str),
+    /// The file of this name has more bytes than are read.
+    Exceeded(&'a str),
+    /// The file of this name was not put.
+    Unput(&'a str),
     /// The text was not written.
     Unwritten,
 }
 
-/// Writes the line of a file that was not read.
-fn put_unread<P: Sink>(sink: &mut P, name: &[u8]) -> Result<(), SinkFail>
+/// Writes a line with the name of a file between some words.
+fn put_name<P: Sink>(sink: &mut P, before: &[u8], name: &str, after: &[u8]) -> Result<(), SinkFail>
     ensures { Puts (P.written sink.old) (P.written sink.new) (P.faults sink.old) (P.faults sink.new)
         (P.refused_growths sink.old) (P.refused_growths sink.new)
-        (codes "omni: read: " ++ escaped name.now ++ 10 ∷ []) result }
+        (before.now ++ (escaped name.now ++ after.now)) result }
 {
-    match put_all(sink, b"omni: read: ") {
+    match put_all(sink, before) {
         Ok(()) => {}
         Err(fail) => return Err(fail),
     }
-    match put_escaped(sink, name) {
+    match put_escaped(sink, name.as_bytes()) {
         Ok(()) => {}
         Err(fail) => return Err(fail),
     }
-    put_all(sink, b"\n")
+    put_all(sink, after)
 }
 
 impl Ending<'_> {
@@ -50,8 +54,9 @@ impl Ending<'_> {
     {
         match self {
             Ending::Done => 0,
+            Ending::Exceeded(_) => 7,
             Ending::Unread(_) => 8,
-            Ending::Unwritten => 9,
+            Ending::Unput(_) | Ending::Unwritten => 9,
             Ending::NoMemory => 10,
             Ending::Refused(refusal) => refusal.status(),
         }
@@ -67,7 +72,14 @@ impl Ending<'_> {
             Ending::Done => put_all(sink, b""),
             Ending::Refused(refusal) => put_refusal(sink, refusal),
             Ending::NoMemory => put_all(sink, b"omni: memory\n"),
-            Ending::Unread(name) => put_unread(sink, name.as_bytes()),
+            Ending::Unread(name) => put_name(sink, b"omni: read: ", name, b"\n"),
+            Ending::Exceeded(name) => put_name(
+                sink,
+                b"omni: limit: file ",
+                name,
+                b" is longer than 67108864\n",
+            ),
+            Ending::Unput(name) => put_name(sink, b"omni: write: ", name, b"\n"),
             Ending::Unwritten => put_all(sink, b"omni: write\n"),
         }
     }

@@ -1,7 +1,7 @@
 //! The lines that are told of refusals.
 
 ghost use Rattle.std.specs.Prelude.{◌≡◌, [], ◌∷◌, ◌++◌, codes, decimal};
-ghost use Rattle.om_cli.specs.Lines.{elf_words, fault_words, number_words, overlap_words, reason_words, refusal_line, step_words, word_of};
+ghost use Rattle.om_cli.specs.Lines.{elf_words, fault_words, number_words, overlap_words, reason_words, refusal_line, room_words, step_words, word_of};
 ghost use Rattle.om_io.specs.Writing.{Puts};
 
 use crate::refusal::{Part, Refusal};
@@ -19,7 +19,6 @@ impl Part {
         match self {
             Part::Words => b"words",
             Part::Executable => b"executable",
-            Part::Log => b"log",
             Part::Query => b"query",
         }
     }
@@ -34,21 +33,38 @@ fn put_place<P: Sink>(sink: &mut P, words: &[u8], at: u64) -> Result<(), SinkFai
     put_pieces(sink, &[words, buffer.format(at).as_bytes()])
 }
 
-/// Writes the words for two places that share an address.
-fn put_overlap<P: Sink>(sink: &mut P, a: u32, b: u32) -> Result<(), SinkFail>
+/// Writes some words and two places.
+fn put_pair<P: Sink>(sink: &mut P, words: &[u8], a: u32, b: u32) -> Result<(), SinkFail>
     ensures { Puts (P.written sink.old) (P.written sink.new) (P.faults sink.old) (P.faults sink.new)
-        (P.refused_growths sink.old) (P.refused_growths sink.new) (overlap_words a b) result }
+        (P.refused_growths sink.old) (P.refused_growths sink.new)
+        (words.now ++ decimal a ++ codes " " ++ decimal b) result }
 {
     let (mut first, mut second) = (Buffer::new(), Buffer::new());
     put_pieces(
         sink,
         &[
-            b"overlap ".as_slice(),
+            words,
             first.format(a).as_bytes(),
             b" ",
             second.format(b).as_bytes(),
         ],
     )
+}
+
+/// Writes the words for two places that share an address.
+fn put_overlap<P: Sink>(sink: &mut P, a: u32, b: u32) -> Result<(), SinkFail>
+    ensures { Puts (P.written sink.old) (P.written sink.new) (P.faults sink.old) (P.faults sink.new)
+        (P.refused_growths sink.old) (P.refused_growths sink.new) (overlap_words a b) result }
+{
+    put_pair(sink, b"overlap ", a, b)
+}
+
+/// Writes the words for two regions that have no room.
+fn put_room<P: Sink>(sink: &mut P, a: u32, b: u32) -> Result<(), SinkFail>
+    ensures { Puts (P.written sink.old) (P.written sink.new) (P.faults sink.old) (P.faults sink.new)
+        (P.refused_growths sink.old) (P.refused_growths sink.new) (room_words a b) result }
+{
+    put_pair(sink, b"no room ", a, b)
 }
 
 /// Writes the words for a fault of an executable.
@@ -84,7 +100,7 @@ fn put_fault<P: Sink>(sink: &mut P, fault: LogFault) -> Result<(), SinkFail>
         LogFault::Version => put_all(sink, b"version"),
         LogFault::NoEnd => put_all(sink, b"no end"),
         LogFault::Region => put_all(sink, b"region"),
-        LogFault::NoMemory | LogFault::Unbuilt { .. } => put_all(sink, b""),
+        LogFault::NoMemory => put_all(sink, b""),
     }
 }
 
@@ -94,6 +110,8 @@ fn put_reason<P: Sink>(sink: &mut P, reason: Reason) -> Result<(), SinkFail>
         (P.refused_growths sink.old) (P.refused_growths sink.new) (reason_words reason) result }
 {
     match reason {
+        Reason::MarkPc => put_all(sink, b"mark pc"),
+        Reason::MarkSum => put_all(sink, b"mark sum"),
         Reason::EndExit => put_all(sink, b"end exit"),
         Reason::EndValue => put_all(sink, b"end value"),
         Reason::EndStop => put_all(sink, b"end stop"),
@@ -101,6 +119,7 @@ fn put_reason<P: Sink>(sink: &mut P, reason: Reason) -> Result<(), SinkFail>
         Reason::Passed => put_all(sink, b"passed"),
         Reason::Number => put_all(sink, b"number"),
         Reason::Argument(place) => put_place(sink, b"argument ", u64::from(place)),
+        Reason::Outside => put_all(sink, b"outside"),
         Reason::Stopped => put_all(sink, b"stopped"),
     }
 }
@@ -162,9 +181,11 @@ fn put_words<P: Sink>(sink: &mut P, refusal: &Refusal) -> Result<(), SinkFail>
     match refusal {
         Refusal::Unbuilt(part) => put_pieces(sink, &[b"omni: unbuilt: ".as_slice(), part.word()]),
         Refusal::Executable(fault) => put_elf(sink, *fault),
+        Refusal::NoRoom { a, b } => put_no_room(sink, *a, *b),
         Refusal::Log(fault) => put_log(sink, *fault),
         Refusal::Overlap { a, b } => put_log_overlap(sink, *a, *b),
         Refusal::TooLong { steps } => put_limit(sink, *steps),
+        Refusal::LogTooLong { step } => put_place(sink, b"omni: limit: log at step ", *step),
         Refusal::Departs(departure) => put_departure(sink, departure),
     }
 }
@@ -176,6 +197,17 @@ fn put_elf<P: Sink>(sink: &mut P, fault: ElfFault) -> Result<(), SinkFail>
 {
     match put_all(sink, b"omni: executable: ") {
         Ok(()) => put_elf_fault(sink, fault),
+        Err(fail) => Err(fail),
+    }
+}
+
+/// Writes the line of regions that have no room, without its line end.
+fn put_no_room<P: Sink>(sink: &mut P, a: u32, b: u32) -> Result<(), SinkFail>
+    ensures { Puts (P.written sink.old) (P.written sink.new) (P.faults sink.old) (P.faults sink.new)
+        (P.refused_growths sink.old) (P.refused_growths sink.new) (codes "omni: executable: " ++ room_words a b) result }
+{
+    match put_all(sink, b"omni: executable: ") {
+        Ok(()) => put_room(sink, a, b),
         Err(fail) => Err(fail),
     }
 }

@@ -10,6 +10,7 @@ mod laws;
 mod lines;
 mod program;
 mod reading;
+mod recording;
 mod refusal;
 mod refused;
 #[cfg(test)]

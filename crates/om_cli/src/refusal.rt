@@ -14,8 +14,6 @@ pub enum Part {
     Words,
     /// The file of the executable.
     Executable,
-    /// The file of the log.
-    Log,
     /// The text of the query.
     Query,
 }
@@ -27,6 +25,12 @@ pub enum Refusal {
     Unbuilt(Part),
     /// The executable isn't one.
     Executable(ElfFault),
+    /// The regions at these places of the run's list share an address, the least such pair; or both are
+    /// the place of a heap that passes the last address.
+    NoRoom {
+        a: u32,
+        b: u32,
+    },
     /// The log isn't one.
     Log(LogFault),
     /// The regions at these places of the run's list share an address; the least such pair.
@@ -41,6 +45,11 @@ pub enum Refusal {
         /// The number of its last step.
         steps: u64,
     },
+    /// The log that is made would be longer than a log that is read may be.
+    LogTooLong {
+        /// The first step whose entries are too many.
+        step: u64,
+    },
     /// The run departs from its log.
     Departs(Departure),
 }
@@ -52,9 +61,9 @@ impl Refusal {
     {
         match self {
             Refusal::Unbuilt(_) => 11,
-            Refusal::Executable(_) => 3,
+            Refusal::Executable(_) | Refusal::NoRoom { .. } => 3,
             Refusal::Log(_) | Refusal::Overlap { .. } => 5,
-            Refusal::TooLong { .. } => 7,
+            Refusal::TooLong { .. } | Refusal::LogTooLong { .. } => 7,
             Refusal::Departs(_) => 6,
         }
     }

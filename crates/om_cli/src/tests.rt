@@ -35,6 +35,8 @@ struct Ran {
     status: u8,
     out: Vec<u8>,
     err: Vec<u8>,
+    /// What the name `made.log` holds.
+    made: Option<Vec<u8>>,
 }
 
 /// One byte of the file put to another value.
@@ -55,31 +57,36 @@ fn changed(alloc: Global, file: &[u8], change: Option<Change>) -> Result<Vec<u8>
     Ok(bytes)
 }
 
-/// What the program does over a shelf with both files, whose call `failing_take` fails, and an output in
+/// What the program does over a shelf with these files, whose call `failing_call` fails, and an output in
 /// pieces of 8 bytes, whose call `failing_write` fails; 0 for none.
 fn run_command(
     alloc: Global,
     words: &[&str],
     files: Files,
-    failing_take: u64,
+    failing_call: u64,
     failing_write: u64,
 ) -> Result<Ran, Fail> {
     let mut own = Vec::new(alloc);
     for word in words {
         own.push(String::from_str(alloc, word)?)?;
     }
-    let mut takes = Calls::new(alloc);
-    takes.add(failing_take)?;
+    let mut calls = Calls::new(alloc);
+    calls.add(failing_call)?;
     let mut writes = Calls::new(alloc);
     writes.add(failing_write)?;
-    let mut shelf = MemShelf::new(files, takes);
+    let mut shelf = MemShelf::new(files, calls);
     let mut out = MemSink::new(alloc, 8, writes);
     let mut err = MemSink::new(alloc, 8, Calls::new(alloc));
     let status = omni(alloc, &own, &mut shelf, &mut out, &mut err);
+    let made = match shelf.held("made.log") {
+        Some(bytes) => Some(bytes.to_vec(alloc)?),
+        None => None,
+    };
     Ok(Ran {
         status,
         out: out.written().to_vec(alloc)?,
         err: err.written().to_vec(alloc)?,
+        made,
     })
 }
 
@@ -118,6 +125,36 @@ fn the_answer_is_printed(rt: HostRuntime) -> Result<(), Fail> {
     Ok(())
 }
 
+#[test]
+fn a_run_is_recorded(rt: HostRuntime) -> Result<(), Fail> {
+    let words = ["record", "program", "empty", "made.log"];
+    let rows = [
+        (
+            0,
+            0,
+            0,
+            b"steps 9 end exit 0\n".as_slice(),
+            b"".as_slice(),
+            true,
+        ),
+        (3, 0, 9, b"", b"omni: write: made.log\n", false),
+        (2, 0, 8, b"", b"omni: read: empty\n", false),
+        (0, 2, 9, b"steps 9 ", b"omni: write\n", true),
+    ];
+    for (failing_call, failing_write, status, out, err, is_put) in rows {
+        let mut held = files(rt.alloc(), None, None)?;
+        held.add("empty", b"")?;
+        held.add("made.log", b"older")?;
+        let ran = run_command(rt.alloc(), &words, held, failing_call, failing_write)?;
+        assert_eq!(rt; ran.status, status);
+        assert_eq!(rt; ran.out.as_slice(), out);
+        assert_eq!(rt; ran.err.as_slice(), err);
+        let want = if is_put { LOG.as_slice() } else { b"older" };
+        assert_eq!(rt; ran.made.ok_or("it is held")?.as_slice(), want);
+    }
+    Ok(())
+}
+
 /// A change of a file at one byte.
 const fn byte_at(at: usize, byte: u8) -> Option<Change> {
     Some(Change { at, byte })
@@ -128,7 +165,7 @@ fn each_refusal_is_told(rt: HostRuntime) -> Result<(), Fail> {
     let all = "SELECT step FROM states";
     let rows = [
         (
-            "record",
+            "replay",
             SQL,
             None,
             None,
@@ -172,16 +209,16 @@ fn each_refusal_is_told(rt: HostRuntime) -> Result<(), Fail> {
             SQL,
             None,
             byte_at(20, 2),
-            11,
-            b"omni: unbuilt: log\n",
+            5,
+            b"omni: log: kind at 37\n",
         ),
         (
             "query",
             SQL,
             None,
-            byte_at(61, 1),
-            11,
-            b"omni: unbuilt: log\n",
+            byte_at(61, 2),
+            5,
+            b"omni: log: short at 20\n",
         ),
         (
             "query",

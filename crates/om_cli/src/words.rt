@@ -2,33 +2,52 @@
 
 ghost use Rattle.std.specs.Prelude.{◌≡◌, map, string_bytes};
 ghost use Rattle.std.specs.Option.{option_map};
-ghost use Rattle.om_cli.specs.Outcome.{asked_by};
-ghost use Rattle.om_cli.specs.Words.{asked_of};
+ghost use Rattle.om_cli.specs.Outcome.{request_of};
+ghost use Rattle.om_cli.specs.Words.{asked_by};
 
 /// What the words ask for.
 #[derive(Clone, Copy, Debug)]
-pub struct Request<'a> {
-    /// The name of the executable's file.
-    pub exe: &'a str,
-    /// The name of the log's file.
-    pub log: &'a str,
-    /// The text of the query.
-    pub sql: &'a str,
+pub enum Request<'a> {
+    /// To answer a query.
+    Query {
+        /// The name of the executable's file.
+        exe: &'a str,
+        /// The name of the log's file.
+        log: &'a str,
+        /// The text of the query.
+        sql: &'a str,
+    },
+    /// To record a run.
+    Record {
+        /// The name of the executable's file.
+        exe: &'a str,
+        /// The name of the file that is the run's input.
+        input: &'a str,
+        /// The name under which the log is put.
+        log: &'a str,
+    },
 }
 
 /// The request of the words after the program's name; none where they are none that is built.
 pub fn read_words(words: &Vec<String>) -> Option<Request<'_>>
-    ensures { option_map asked_of result ≡ asked_by (map string_bytes words.now.items) }
+    ensures { option_map asked_by result ≡ request_of (map string_bytes words.now.items) }
 {
-    let [command, exe, log, sql] = words.as_slice() else {
+    let [command, first, second, third] = words.as_slice() else {
         return None;
     };
-    if command.as_str() != "query" {
-        return None;
+    if command.as_str() == "query" {
+        return Some(Request::Query {
+            exe: first.as_str(),
+            log: second.as_str(),
+            sql: third.as_str(),
+        });
     }
-    Some(Request {
-        exe: exe.as_str(),
-        log: log.as_str(),
-        sql: sql.as_str(),
-    })
+    if command.as_str() == "record" {
+        return Some(Request::Record {
+            exe: first.as_str(),
+            input: second.as_str(),
+            log: third.as_str(),
+        });
+    }
+    None
 }

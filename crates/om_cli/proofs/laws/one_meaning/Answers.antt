@@ -1,4 +1,4 @@
-use Rattle.std.proofs.Common.{◌≡◌, ap, sym, inl, inr, Ok, Err}
+use Rattle.std.proofs.Common.{◌≡◌, ap, inl, inr, Ok, Err}
 use Rattle.std.specs.Prelude.{Result}
 use Rattle.om_log.specs.declared.fault.LogFault.{LogFault}
 use Rattle.om_log.specs.declared.log.Log.{Log}

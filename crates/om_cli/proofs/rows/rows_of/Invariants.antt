@@ -1,4 +1,4 @@
-use Rattle.std.proofs.Common.{◌≡◌, ℕ, ◌-◌, ◌≤◌, None}
+use Rattle.std.proofs.Common.{◌≡◌, ◌-◌, ◌≤◌, None}
 use Rattle.om_run.specs.Departure.{first_departure}
 use Rattle.om_run.specs.Run.{below, end_of}
 use Rattle.om_cli.specs.Answer.{cells_at, kept_below}

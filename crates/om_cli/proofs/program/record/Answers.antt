@@ -1,0 +1,19 @@
+use Rattle.std.proofs.Common.{Some}
+use Rattle.om_cli.specs.Outcome.{outcome_for, records}
+use Rattle.om_cli.proofs.AnswerLemmas.{refused_cause, refused_ends}
+use Rattle.om_cli.proofs.program.record.Goals as goal
+
+pub returns-in-Err-clause-ends : goal.returns-in-Err-clause-ends
+returns-in-Err-clause-ends g c =
+    λ read query.
+    rw c.ending.ensures
+    (refused_ends (outcome_for (Some (records c.args.exe.now c.args.input.now c.args.log.now)) (g.F.Shelf.told c.args.shelf.now) read query) c.in-Err.refused (g.O.Sink.written c.args.out.now) (g.F.Shelf.told c.args.shelf.now) (g.F.Shelf.told c.log_of.new.shelf)
+    (c.in-Err.ensures.log c.args.log.now read query) c.in-Err.ensures.told)
+
+pub returns-in-Err-clause-cause : goal.returns-in-Err-clause-cause
+returns-in-Err-clause-cause g c =
+    rw c.ending.ensures
+    (refused_cause (records c.args.exe.now c.args.input.now c.args.log.now) (g.F.Shelf.told c.args.shelf.now)
+    (record { takes = g.F.Shelf.failed_takes c.args.shelf.now; puts = g.F.Shelf.failed_puts c.args.shelf.now; faults = g.O.Sink.faults c.args.out.now })
+    (record { takes = g.F.Shelf.failed_takes c.log_of.new.shelf; puts = g.F.Shelf.failed_puts c.log_of.new.shelf; faults = g.O.Sink.faults c.args.out.now })
+    c.in-Err.refused c.in-Err.ensures.cause)
