@@ -1,0 +1,1 @@
+SELECT step, pc, a0, a1 FROM states WHERE step >= 4

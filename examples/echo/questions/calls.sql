@@ -1,0 +1,1 @@
+SELECT step, pc, a0, a7 FROM states WHERE insn = 115
