@@ -5,3 +5,5 @@ pub mod EndLemmas
 pub mod RunLemmas
 pub mod MadeLemmas
 pub mod LawLemmas
+pub mod BoundLemmas
+pub mod SizeLemmas
