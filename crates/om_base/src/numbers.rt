@@ -9,8 +9,12 @@ use byteorder::{ByteOrder, LittleEndian};
 /// Why no number could be read.
 #[derive(Clone, Copy, Debug, PartialEq, Eq)]
 pub enum Num {
-    /// Too few bytes stand at the place.
+    /// Too few bytes stand at the place: a number of a fixed width or a LEB128 number breaks off.
     Short,
+    /// A LEB128 number has no last byte within ten, or is none of 64 bits.
+    LebLong,
+    /// No zero byte ends the text at the place.
+    NoNul,
 }
 
 /// The `count` bytes that begin at `at`.

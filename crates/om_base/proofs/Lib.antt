@@ -1,0 +1,6 @@
+pub mod FieldLaws
+pub mod LebLaws
+pub mod LebLemmas
+pub mod PlaceLemmas
+pub mod ReadingLaws
+pub mod SpanLemmas
