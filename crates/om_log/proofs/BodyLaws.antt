@@ -3,7 +3,7 @@ use Rattle.std.proofs.Common.{◌≡◌, ◌↔◌, ℕ, suc, ◌-◌, ◌<◌, 
 use Rattle.std.specs.Prelude.{IsTrue}
 use Rattle.std.specs.List.{slice_get}
 use Rattle.std.proofs.lemmas.List.{append-nil, length-append}
-use Rattle.om_log.specs.Faults.{IsHeaderFault, IsKind, IsRefused, IsStop, IsBodyFault}
+use Rattle.om_log.specs.Faults.{IsHeaderFault, IsKind, IsRefused, IsFaultBehind, IsBodyFault}
 use Rattle.om_log.specs.Fields.{number}
 use Rattle.om_log.specs.Grammar.{spelling, spellings, header, HasCause, step_of, next_of, IsEnd, MayStand, AreLawful, HasEnd, next_after}
 use Rattle.om_log.specs.Reading.{entry_field, start_field}
@@ -85,9 +85,6 @@ goes_on body entries rest least ended e tail end here not_yet first flag =
       flag = (λ h. ends_more entries e (flag.0 h), λ h. flag_back end entries e running flag h);
     }
 
-pub left_within : (len : ℕ) (body : List ℕ) (entries : List Entry) (rest : List ℕ) (least : ℕ) (ended : Bool) → IsAt body entries rest least ended → length body ≤ len → length rest ≤ len
-left_within len body entries rest least ended here within = omega (arith, ap length here.spelled, length-append (spellings entries) rest)
-
 longer_tail : (kind : ℕ) (front tail : List ℕ) → length tail < length (kind ∷ (front ++ tail))
 longer_tail kind front tail = let h : length tail < suc (length (front ++ tail)) = omega (arith, length-append front tail) in h
 
@@ -100,26 +97,26 @@ spelling_some (End step cause value) tail = longer_tail 3 _ tail
 pub shorter : (least : ℕ) (rest : List ℕ) (e : Entry) (tail : List ℕ) → IsFirst least rest e tail → length tail < length rest
 shorter least rest e tail first = subst (λ (r : List ℕ). length tail < length r) (sym first.spelled) (spelling_some e tail)
 
-pub stops : (len : ℕ) (body : List ℕ) (entries : List Entry) (rest : List ℕ) (least : ℕ) (ended : Bool) (fault : LogFault) → IsAt body entries rest least ended → ended ≡ false → IsRefused least (len - length rest) rest fault → IsBodyFault len body fault
-unfolding IsStop
-stops len body entries rest least ended fault here not_yet refused =
+pub refused_behind : (len : ℕ) (body : List ℕ) (entries : List Entry) (rest : List ℕ) (least : ℕ) (ended : Bool) (fault : LogFault) → IsAt body entries rest least ended → ended ≡ false → IsRefused least (len - length rest) rest fault → IsBodyFault len body fault
+unfolding IsFaultBehind
+refused_behind len body entries rest least ended fault here not_yet refused =
     record {
       entries = entries;
       rest = rest;
       lawful = here.lawful;
       spelled = here.spelled;
-      stop = inl (runs ended entries here.flag not_yet, subst (λ n. IsRefused n (len - length rest) rest fault) here.next refused);
+      behind = inl (runs ended entries here.flag not_yet, subst (λ n. IsRefused n (len - length rest) rest fault) here.next refused);
     }
 
-pub trails : (len : ℕ) (body : List ℕ) (entries : List Entry) (rest : List ℕ) (least : ℕ) (ended : Bool) → IsAt body entries rest least ended → ended ≡ true → (rest ≡ [] → ⊥) → IsBodyFault len body (Trailing (len - length rest))
-unfolding IsStop
-trails len body entries rest least ended here over some =
+pub trailing_behind : (len : ℕ) (body : List ℕ) (entries : List Entry) (rest : List ℕ) (least : ℕ) (ended : Bool) → IsAt body entries rest least ended → ended ≡ true → (rest ≡ [] → ⊥) → IsBodyFault len body (Trailing (len - length rest))
+unfolding IsFaultBehind
+trailing_behind len body entries rest least ended here over some =
     record {
       entries = entries;
       rest = rest;
       lawful = here.lawful;
       spelled = here.spelled;
-      stop = inr (here.flag.0 over, some, refl);
+      behind = inr (here.flag.0 over, some, refl);
     }
 
 pub is_body : (body : List ℕ) (entries : List Entry) (rest : List ℕ) (least : ℕ) (ended : Bool) → IsAt body entries rest least ended → ended ≡ true → rest ≡ [] → IsBody body entries

@@ -126,9 +126,6 @@ args_law = times_law 6 (number_law 4)
 call_law : IsField call_parts call_spelling FitsCall
 call_law = both_law (both_law (both_law (both_law (number_law 8) (number_law 4)) args_law) (number_law 4)) chunks_law
 
-abbrev ThreeParts : Type 0
-ThreeParts = (ℕ × ℕ) × ℕ
-
 mark_law : IsField (both (both (number 8) (number 4)) (number 4)) (λ x. (le_bytes 8 x.0.0 ++ le_bytes 4 x.0.1) ++ le_bytes 4 x.1) (λ x. ((x.0.0 < 2 ^ 64) × (x.0.1 < 2 ^ 32)) × (x.1 < 2 ^ 32))
 mark_law = both_law (both_law (number_law 8) (number_law 4)) (number_law 4)
 

@@ -1,7 +1,7 @@
 -- Lists of entries, and that a file is spelled in one way: one log or one fault, and never both.
 use Rattle.std.proofs.Common.{◌≡◌, ℕ, suc, ◌-◌, ◌≤◌, List, [], ◌∷◌, ◌++◌, length, take, slice_index, refl, sym, ap, subst, ◌∙◌, append_assoc, arith, inl, inr, ◌⊎◌}
 use Rattle.std.proofs.lemmas.List.{append-nil, length-append}
-use Rattle.om_log.specs.Faults.{IsHeaderFault, IsKind, IsNoEntry, IsRefused, IsStop, IsBodyFault, IsFault}
+use Rattle.om_log.specs.Faults.{IsHeaderFault, IsKind, IsNoEntry, IsRefused, IsFaultBehind, IsBodyFault, IsFault}
 use Rattle.om_log.specs.Grammar.{spelling, spellings, header, Fits, HasCause, step_of, next_of, IsEnd, MayStand, AreLawful, HasEnd, next_after, IsLog}
 use Rattle.om_log.specs.LittleEndian.{le_bytes}
 use Rattle.om_log.specs.Regions.{FitsStart, IsLawfulStart}
@@ -134,20 +134,20 @@ one_refusal least at rest f g (inl a) (inr b) = absurd (entry_there at rest f b.
 one_refusal least at rest f g (inr a) (inl b) = absurd (entry_there at rest g a.0.entry a.0.tail a.0.spelled a.0.fits a.0.cause b)
 one_refusal least at rest f g (inr a) (inr b) = a.1 ∙ sym b.1
 
-one_stop : (es : List Entry) (at : ℕ) (rest : List ℕ) (f g : LogFault) → IsStop es at rest f → IsStop es at rest g → f ≡ g
-unfolding IsStop
-one_stop es at rest f g (inl a) (inl b) = one_refusal (next_after 0 es) at rest f g a.1 b.1
-one_stop es at rest f g (inl a) (inr b) = absurd (a.0 b.0)
-one_stop es at rest f g (inr a) (inl b) = absurd (b.0 a.0)
-one_stop es at rest f g (inr a) (inr b) = a.2 ∙ sym b.2
+one_fault_behind : (es : List Entry) (at : ℕ) (rest : List ℕ) (f g : LogFault) → IsFaultBehind es at rest f → IsFaultBehind es at rest g → f ≡ g
+unfolding IsFaultBehind
+one_fault_behind es at rest f g (inl a) (inl b) = one_refusal (next_after 0 es) at rest f g a.1 b.1
+one_fault_behind es at rest f g (inl a) (inr b) = absurd (a.0 b.0)
+one_fault_behind es at rest f g (inr a) (inl b) = absurd (b.0 a.0)
+one_fault_behind es at rest f g (inr a) (inr b) = a.2 ∙ sym b.2
 
--- lawful entries don't stop in front of more of them
-no_stop : (es : List Entry) (e : Entry) (more : List Entry) (at : ℕ) (rest t : List ℕ) (fault : LogFault) → AreLawful 0 (es ++ e ∷ more) → rest ≡ spellings (e ∷ more) ++ t → IsStop es at rest fault → ⊥
-unfolding IsStop AreLawful spellings
-no_stop es e more at rest t fault lawful same (inl h) =
+-- in front of more lawful entries there is no fault
+no_fault_before : (es : List Entry) (e : Entry) (more : List Entry) (at : ℕ) (rest t : List ℕ) (fault : LogFault) → AreLawful 0 (es ++ e ∷ more) → rest ≡ spellings (e ∷ more) ++ t → IsFaultBehind es at rest fault → ⊥
+unfolding IsFaultBehind AreLawful spellings
+no_fault_before es e more at rest t fault lawful same (inl h) =
     let stand = (lawful_behind 0 es (e ∷ more) lawful).0 in
     not_refused (next_after 0 es) at rest fault e (spellings more ++ t) (same ∙ append_assoc (spelling e) (spellings more) t) stand h.1
-no_stop es e more at rest t fault lawful same (inr h) = let none = none_behind 0 es (e ∷ more) lawful h.0 in cc
+no_fault_before es e more at rest t fault lawful same (inr h) = let none = none_behind 0 es (e ∷ more) lawful h.0 in cc
 
 -- ---- bodies
 
@@ -159,11 +159,11 @@ same_rest es fs r t (e ∷ more) longer behind none = absurd cc
 fault_by_more : (len : ℕ) (body : List ℕ) (f g : LogFault) (p : IsBodyFault len body f) (q : IsBodyFault len body g) (more : List Entry) → q.entries ≡ p.entries ++ more → p.rest ≡ spellings more ++ q.rest → f ≡ g
 fault_by_more len body f g p q [] longer behind =
     let same = same_rest p.entries q.entries p.rest q.rest [] longer behind refl in
-    let P : List Entry → List ℕ → Type 0 = λ es r. IsStop es (len - length r) r f in
-    let moved : IsStop q.entries (len - length q.rest) q.rest f = subst (λ r. P q.entries r) same.1 (subst (λ es. P es p.rest) same.0 p.stop) in
-    one_stop q.entries (len - length q.rest) q.rest f g moved q.stop
+    let P : List Entry → List ℕ → Type 0 = λ es r. IsFaultBehind es (len - length r) r f in
+    let moved : IsFaultBehind q.entries (len - length q.rest) q.rest f = subst (λ r. P q.entries r) same.1 (subst (λ es. P es p.rest) same.0 p.behind) in
+    one_fault_behind q.entries (len - length q.rest) q.rest f g moved q.behind
 fault_by_more len body f g p q (e ∷ more) longer behind =
-    absurd (no_stop p.entries e more (len - length p.rest) p.rest q.rest f (subst (AreLawful 0) longer q.lawful) behind p.stop)
+    absurd (no_fault_before p.entries e more (len - length p.rest) p.rest q.rest f (subst (AreLawful 0) longer q.lawful) behind p.behind)
 
 pub one_body_fault : (len : ℕ) (body : List ℕ) (f g : LogFault) → IsBodyFault len body f → IsBodyFault len body g → f ≡ g
 one_body_fault len body f g p q =
@@ -172,18 +172,18 @@ one_body_fault len body f g p q =
       | inr front ↦ sym (fault_by_more len body g f q p front.more front.longer front.behind)
     ]
 
--- entries with an END at the end of the bytes don't stop there
-at_end : (es : List Entry) (at : ℕ) (rest : List ℕ) (fault : LogFault) → HasEnd es → [] ≡ rest → IsStop es at rest fault → ⊥
-unfolding IsStop
+-- entries with an END at the end of the bytes have no fault behind them
+at_end : (es : List Entry) (at : ℕ) (rest : List ℕ) (fault : LogFault) → HasEnd es → [] ≡ rest → IsFaultBehind es at rest fault → ⊥
+unfolding IsFaultBehind
 at_end es at rest fault ended none (inl h) = h.0 ended
 at_end es at rest fault ended none (inr h) = h.1 (sym none)
 
-longer_stops : (len : ℕ) (es : List Entry) (f : LogFault) → AreLawful 0 es → HasEnd es → (p : IsBodyFault len (spellings es) f) (more : List Entry) → es ≡ p.entries ++ more → p.rest ≡ spellings more ++ [] → ⊥
-longer_stops len es f lawful ended p [] longer behind =
+longer_faults : (len : ℕ) (es : List Entry) (f : LogFault) → AreLawful 0 es → HasEnd es → (p : IsBodyFault len (spellings es) f) (more : List Entry) → es ≡ p.entries ++ more → p.rest ≡ spellings more ++ [] → ⊥
+longer_faults len es f lawful ended p [] longer behind =
     let same = same_rest p.entries es p.rest [] [] longer behind refl in
-    at_end p.entries (len - length p.rest) p.rest f (subst HasEnd (sym same.0) ended) (sym same.1) p.stop
-longer_stops len es f lawful ended p (e ∷ more) longer behind =
-    no_stop p.entries e more (len - length p.rest) p.rest [] f (subst (AreLawful 0) longer lawful) behind p.stop
+    at_end p.entries (len - length p.rest) p.rest f (subst HasEnd (sym same.0) ended) (sym same.1) p.behind
+longer_faults len es f lawful ended p (e ∷ more) longer behind =
+    no_fault_before p.entries e more (len - length p.rest) p.rest [] f (subst (AreLawful 0) longer lawful) behind p.behind
 
 -- a whole list of entries has no fault
 pub no_body_fault : (len : ℕ) (es : List Entry) (f : LogFault) → AreLawful 0 es → HasEnd es → IsBodyFault len (spellings es) f → ⊥
@@ -192,8 +192,8 @@ no_body_fault len es f lawful ended p =
       | inl front ↦
           (let none = none_behind 0 es front.more (subst (AreLawful 0) front.longer p.lawful) ended in
           let same = same_rest es p.entries [] p.rest front.more front.longer front.behind none in
-          at_end p.entries (len - length p.rest) p.rest f (subst HasEnd same.0 ended) same.1 p.stop)
-      | inr front ↦ longer_stops len es f lawful ended p front.more front.longer front.behind
+          at_end p.entries (len - length p.rest) p.rest f (subst HasEnd same.0 ended) same.1 p.behind)
+      | inr front ↦ longer_faults len es f lawful ended p front.more front.longer front.behind
     ]
 
 no_more : (more : List Entry) → [] ≡ spellings more ++ [] → more ≡ []
@@ -212,7 +212,7 @@ one_list n m es fs le lf same =
 longer_by : (len : ℕ) (body : List ℕ) (f : LogFault) (p : IsBodyFault len body f) (es : List Entry) (rest : List ℕ) → AreLawful 0 es → (more : List Entry) → es ≡ p.entries ++ more → p.rest ≡ spellings more ++ rest → (others : List Entry) × (p.entries ≡ es ++ others)
 longer_by len body f p es rest lawful [] longer behind = ([], sym (append-nil es ∙ longer ∙ append-nil p.entries))
 longer_by len body f p es rest lawful (e ∷ more) longer behind =
-    absurd (no_stop p.entries e more (len - length p.rest) p.rest rest f (subst (AreLawful 0) longer lawful) behind p.stop)
+    absurd (no_fault_before p.entries e more (len - length p.rest) p.rest rest f (subst (AreLawful 0) longer lawful) behind p.behind)
 
 -- the entries before a fault go on behind every other lawful list in front of the body
 pub longest_list : (len : ℕ) (body : List ℕ) (f : LogFault) (p : IsBodyFault len body f) (es : List Entry) (rest : List ℕ) → AreLawful 0 es → body ≡ spellings es ++ rest → (more : List Entry) × (p.entries ≡ es ++ more)
@@ -302,11 +302,11 @@ one_fault file f g (inl a) (inr b) = absurd (no_header_fault file f b.start b.bo
 one_fault file f g (inr a) (inl b) = absurd (no_header_fault file g a.start a.body a.fits a.lawful a.spelled b)
 one_fault file f g (inr a) (inr b) =
     let one = one_header a.start b.start a.body b.body a.fits b.fits (sym a.spelled ∙ b.spelled) in
-    one_body_fault (length file) b.body f g (subst (λ body. IsBodyFault (length file) body f) one.1 a.stops) b.stops
+    one_body_fault (length file) b.body f g (subst (λ body. IsBodyFault (length file) body f) one.1 a.in_body) b.in_body
 
 -- a log has no fault
 pub no_fault : (file : List ℕ) (log : Log) (f : LogFault) → IsLog file log → IsFault file f → ⊥
 no_fault file log f p (inl h) = no_header_fault file f log.start (spellings log.entries) p.lawful.fits p.lawful.start p.spelled h
 no_fault file log f p (inr h) =
     let one = one_header h.start log.start h.body (spellings log.entries) h.fits p.lawful.fits (sym h.spelled ∙ p.spelled) in
-    no_body_fault (length file) log.entries f p.lawful.entries p.lawful.ended (subst (λ body. IsBodyFault (length file) body f) one.1 h.stops)
+    no_body_fault (length file) log.entries f p.lawful.entries p.lawful.ended (subst (λ body. IsBodyFault (length file) body f) one.1 h.in_body)

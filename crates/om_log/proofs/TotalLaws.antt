@@ -14,7 +14,7 @@ use Rattle.om_log.specs.declared.fault.LogFault.TheVariants.{Short, Magic, Versi
 use Rattle.om_log.specs.declared.log.Log.{Log}
 use Rattle.om_log.specs.declared.start.Start.{Start}
 use Rattle.om_log.proofs.FieldLaws.{IsBytes, IsBytes-rest}
-use Rattle.om_log.proofs.BodyLaws.{refused_end, refused_kind, refused_short, refused_cause, refused_order, first_is, IsAt, starts, goes_on, shorter, stops, trails, is_body, start_sized, header_is, header_unlawful}
+use Rattle.om_log.proofs.BodyLaws.{refused_end, refused_kind, refused_short, refused_cause, refused_order, first_is, IsAt, starts, goes_on, shorter, refused_behind, trailing_behind, is_body, start_sized, header_is, header_unlawful}
 
 -- ---- one entry
 
@@ -74,17 +74,17 @@ IsBodyOrFault len body = ((es : List Entry) × IsBody body es) ⊎ ((f : LogFaul
 
 at_the_end : (len : ℕ) (body : List ℕ) (es : List Entry) (rest : List ℕ) (least : ℕ) → IsAt body es rest least true → IsBodyOrFault len body
 at_the_end len body es [] least here = inl (es, is_body body es [] least true here refl refl)
-at_the_end len body es (x ∷ rest) least here = inr (Trailing (len - length (x ∷ rest)), trails len body es (x ∷ rest) least true here refl (λ none. cc))
+at_the_end len body es (x ∷ rest) least here = inr (Trailing (len - length (x ∷ rest)), trailing_behind len body es (x ∷ rest) least true here refl (λ none. cc))
 
 from_here : (fuel len : ℕ) (body : List ℕ) (es : List Entry) (rest : List ℕ) (least : ℕ) → length rest ≤ fuel → IsBytes rest → IsAt body es rest least false → IsBodyOrFault len body
 from_here zero len body es rest least few bytes here =
     elim (entry_or_refused least (len - length rest) rest bytes) [
       | inl first ↦ absurd (omega (arith, shorter least rest first.0.0 first.0.1 first.1))
-      | inr refused ↦ inr (refused.0, stops len body es rest least false refused.0 here refl refused.1)
+      | inr refused ↦ inr (refused.0, refused_behind len body es rest least false refused.0 here refl refused.1)
     ]
 from_here (suc fuel) len body es rest least few bytes here =
     elim (entry_or_refused least (len - length rest) rest bytes) [
-      | inr refused ↦ inr (refused.0, stops len body es rest least false refused.0 here refl refused.1)
+      | inr refused ↦ inr (refused.0, refused_behind len body es rest least false refused.0 here refl refused.1)
       | inl first ↦ elim (end_cases first.0.0) [
         | inl end ↦ at_the_end len body (es ++ first.0.0 ∷ []) first.0.1 (next_of first.0.0) (goes_on body es rest least false first.0.0 first.0.1 true here refl first.1 ((λ _. end), (λ _. refl)))
         | inr more ↦
@@ -183,7 +183,7 @@ with_body file start body h lawful (inl list) =
       },
     )
 with_body file start body h lawful (inr fault) =
-    inr (fault.0, inr (record { start = start; body = body; fits = h.0; lawful = lawful; spelled = h.1; stops = fault.1 }))
+    inr (fault.0, inr (record { start = start; body = body; fits = h.0; lawful = lawful; spelled = h.1; in_body = fault.1 }))
 
 with_letters : (file : List ℕ) → IsBytes file → 20 ≤ length file → take 3 file ≡ 79 ∷ 84 ∷ 76 ∷ [] → slice_index file 3 ≡ 49 → IsLogOrFault file
 with_letters file bytes long letters digit =

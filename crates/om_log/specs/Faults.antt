@@ -65,8 +65,8 @@ unfoldable pub IsRefused : ℕ → ℕ → List ℕ → LogFault → Type 0
 IsRefused least at rest fault = IsNoEntry at rest fault ⊎ (IsEarly least rest × (fault ≡ Order at))
 
 -- the fault at an offset of the bytes behind lawful entries: the entry there is refused, or the entries have ended
-unfoldable pub IsStop : List Entry → ℕ → List ℕ → LogFault → Type 0
-IsStop entries at rest fault =
+unfoldable pub IsFaultBehind : List Entry → ℕ → List ℕ → LogFault → Type 0
+IsFaultBehind entries at rest fault =
     ((HasEnd entries → ⊥) × IsRefused (next_after 0 entries) at rest fault)
     ⊎ (HasEnd entries × (rest ≢ []) × (fault ≡ Trailing at))
 
@@ -76,7 +76,7 @@ pub record IsBodyFault (len : ℕ) (body : List ℕ) (fault : LogFault) : Type 0
   pub rest : List ℕ
   pub lawful : AreLawful 0 entries
   pub spelled : body ≡ spellings entries ++ rest
-  pub stop : IsStop entries (len - length rest) rest fault
+  pub behind : IsFaultBehind entries (len - length rest) rest fault
 
 -- the fault of a file whose header is lawful
 pub record IsEntryFault (file : List ℕ) (fault : LogFault) : Type 0 where
@@ -85,7 +85,7 @@ pub record IsEntryFault (file : List ℕ) (fault : LogFault) : Type 0 where
   pub fits : FitsStart start
   pub lawful : IsLawfulStart start
   pub spelled : file ≡ header start ++ body
-  pub stops : IsBodyFault (length file) body fault
+  pub in_body : IsBodyFault (length file) body fault
 
 -- the fault of a file
 abbrev pub IsFault : List ℕ → LogFault → Type 0

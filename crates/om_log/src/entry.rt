@@ -4,10 +4,11 @@ ghost use Rattle.std.specs.Prelude.{◌≡◌, ◌↔◌, IsTrue};
 
 use crate::writes::Writes;
 
-/// What happened before a step of the run, or where it ended.
+/// What a log tells of a step of the run: the call that it makes, what its state looks like, or that the run
+/// ends there.
 #[derive(Debug, Drop)]
 pub enum Entry<'a> {
-    /// The environment call that the step makes, and what it did.
+    /// The system call that the step makes, and what it did.
     Call {
         step: u64,
         /// The call's number, from a7.
