@@ -5,7 +5,6 @@ use Rattle.std.specs.Char.{digit_value, is_digit}
 use Rattle.std.specs.List.{list_all}
 use Rattle.std.proofs.lemmas.Bool.{le-ltb, ltb-false}
 use Rattle.std.proofs.Math.Nat.{mul-le-mul_left}
-use Rattle.om_parse.specs.Numerals.{number_in}
 
 -- the number that digits write behind those of a value
 abbrev pub behind : ℕ → ℕ → List ℕ → ℕ
@@ -16,9 +15,6 @@ abbrev pub number_from : ℕ → ℕ → List ℕ → Option ℕ
 number_from base value digits =
     if list_all (λ byte. is_digit byte base) digits && nat_lt (behind base value digits) (2 ^ 64)
     then Some (behind base value digits) else None
-
-pub number_from-first : (base : ℕ) (digit : ℕ) (digits : List ℕ) → number_in base (digit ∷ digits) ≡ number_from base 0 (digit ∷ digits)
-number_from-first base digit digits = refl
 
 both_false : (a b : Bool) (n : ℕ) → b ≡ false → cond (a && b) (Some n) None ≡ None
 both_false true b n e = rw e refl

@@ -45,9 +45,6 @@ pub record Passed (quote : ℕ) (text rest : List ℕ) : Type 0 where
   pub split : text ≡ front ++ rest
   pub same : within quote text ≡ put front (within quote rest)
 
-pub passed_none : (quote : ℕ) (text : List ℕ) → Passed quote text text
-passed_none quote text = record { front = []; split = refl; same = sym (put_none (within quote text)) }
-
 more : {quote : ℕ} {text rest : List ℕ} (bytes after : List ℕ) → Passed quote text rest → rest ≡ bytes ++ after → within quote rest ≡ put bytes (within quote after) → Passed quote text after
 more {quote} {text} {rest} bytes after h split e = record {
   front = h.front ++ bytes;

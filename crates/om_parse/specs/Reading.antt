@@ -205,8 +205,8 @@ whole = do
   nothing ← end
   pure it
 
--- what a function that parses tokens ensures of a fault, where the text ends at an offset
+-- what a function that parses tokens ensures of a fault, where the text ends before this offset
 abbrev pub IsTokenFault : Tokens → ℕ → ParseFault → Type 0
-IsTokenFault tokens end f.NoMemory = Unit {0}
-IsTokenFault tokens end (f.Syntax at) = (rest : Tokens) × IsRefused IsQuery tokens rest × (at ≡ place_of end rest)
-IsTokenFault tokens end (f.TooWide n) = ⊥
+IsTokenFault tokens past f.NoMemory = Unit {0}
+IsTokenFault tokens past (f.Syntax at) = (rest : Tokens) × IsRefused IsQuery tokens rest × (at ≡ place_of past rest)
+IsTokenFault tokens past (f.TooWide n) = ⊥
