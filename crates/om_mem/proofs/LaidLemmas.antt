@@ -13,14 +13,14 @@ use Rattle.om_mem.specs.Laid.{cells, laid, place_of}
 use Rattle.om_mem.specs.declared.region.Region.{Region}
 
 -- an entry whose key is sought is found
-hit : (q a b : ℕ) (rest : Option ℕ) → q ≡ a → cond (eq_by_cmp nat_cmp q a) (Some b) rest ≡ Some b
+pub hit : (q a b : ℕ) (rest : Option ℕ) → q ≡ a → cond (eq_by_cmp nat_cmp q a) (Some b) rest ≡ Some b
 hit q a b rest e = grind (arith, nat_tests)
 
 -- an entry of another key is passed
-miss : (q a b : ℕ) (rest : Option ℕ) → q ≢ a → cond (eq_by_cmp nat_cmp q a) (Some b) rest ≡ rest
+pub miss : (q a b : ℕ) (rest : Option ℕ) → q ≢ a → cond (eq_by_cmp nat_cmp q a) (Some b) rest ≡ rest
 miss q a b rest ne = grind (arith, nat_tests)
 
-holds-true : (low size q : ℕ) → (nat_le low q && nat_lt q (low + size)) ≡ true → (low ≤ q) × (q < low + size)
+pub holds-true : (low size q : ℕ) → (nat_le low q && nat_lt q (low + size)) ≡ true → (low ≤ q) × (q < low + size)
 holds-true low size q h = grind (arith, nat_tests)
 
 holds-false : (low size q : ℕ) → (nat_le low q && nat_lt q (low + size)) ≡ false → (q < low) ⊎ (low + size ≤ q)

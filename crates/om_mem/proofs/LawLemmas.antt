@@ -8,12 +8,13 @@ use Rattle.std.proofs.lemmas.Bool.{cases_lt}
 use Rattle.std.proofs.lemmas.Cmp.{nat_cmp_total}
 use Rattle.std.proofs.lemmas.List.{get_or-map, get_or-take, get_or-drop, length-take, length-drop}
 use Rattle.std.proofs.lemmas.List.Quantifiers.{position-Some}
-use Rattle.om_mem.specs.Contents.{Contents, IsWhole, shares, region_at, overlap_from, overlap_of}
+use Rattle.om_mem.specs.Contents.{Contents, IsWhole, region_at, overlap_of}
 use Rattle.om_mem.specs.Laid.{place_of}
 use Rattle.om_mem.specs.Laws.{HoldsAt, IsLeastOverlap, HaveNoOverlap, AreKept, last_of}
 use Rattle.om_mem.specs.Pages.{Held, IsKept, cleared, flag, addresses_of, page_addresses, page_count, page_in, byte_in}
 use Rattle.om_mem.specs.declared.region.Region.{Region}
-use Rattle.om_mem.proofs.PageLemmas.{position_none, address_at-place, length-addresses_of, placed}
+use Rattle.om_mem.proofs.OverlapLemmas.{overlap_from, overlap_of-from, overlap_parts, position_none, shares}
+use Rattle.om_mem.proofs.PageLemmas.{address_at-place, length-addresses_of, placed}
 
 -- ---- overlaps
 
@@ -49,23 +50,15 @@ alone r rs k q none one two =
     let no = none_at r rs k none in
     absurd (cc)
 
--- where no pair is told, none begins with the first region, and none is told of the others
-parts : (n : ℕ) (r : Region) (rs : List Region) → overlap_from n (r ∷ rs) ≡ None → (position (shares r) rs ≡ None) × (overlap_from (n + 1) rs ≡ None)
-parts n r rs none =
-    elim (position (shares r) rs) as (λ p. option_or (option_map (λ k. (n, n + 1 + k)) p) (overlap_from (n + 1) rs) ≡ None → (p ≡ None) × (overlap_from (n + 1) rs ≡ None)) [
-      | None ↦ λ is. (refl, is)
-      | Some k ↦ λ is. absurd (cc)
-    ] none
-
 have_none : (n : ℕ) (rs : List Region) → overlap_from n rs ≡ None → HaveNoOverlap rs
 have_none n [] none c d q less one two = nothing q one
   where
     nothing : (q : ℕ) → (nat_le 0 q && nat_lt q (0 + 0)) ≡ true → ⊥
     nothing q is = grind (arith, nat_tests)
 have_none n (r ∷ rs) none zero zero q less one two = omega arith
-have_none n (r ∷ rs) none zero (suc d) q less one two = alone r rs d q (parts n r rs none).0 one two
+have_none n (r ∷ rs) none zero (suc d) q less one two = alone r rs d q (overlap_parts n r rs none).0 one two
 have_none n (r ∷ rs) none (suc c) zero q less one two = omega arith
-have_none n (r ∷ rs) none (suc c) (suc d) q less one two = have_none (n + 1) rs (parts n r rs none).1 c d q (omega arith) one two
+have_none n (r ∷ rs) none (suc c) (suc d) q less one two = have_none (n + 1) rs (overlap_parts n r rs none).1 c d q (omega arith) one two
 
 -- the least pair that begins with the first region
 least_first : (r : Region) (rs : List Region) (k : ℕ) → position (shares r) rs ≡ Some k → (c d q : ℕ) → c < d → HoldsAt (r ∷ rs) c q → HoldsAt (r ∷ rs) d q → (0 < c) ⊎ ((0 ≡ c) × (suc k ≤ d))
@@ -140,10 +133,10 @@ least_told rs a b is =
     rw (one, two) is.least
 
 pub told_least : (rs : List Region) (a b : ℕ) → overlap_of rs ≡ Some (a, b) → IsLeastOverlap rs a b
-told_least rs a b told = least_told rs a b (told_from 0 rs a b told)
+told_least rs a b told = least_told rs a b (told_from 0 rs a b (sym (overlap_of-from rs) ∙ told))
 
 pub none_told : (rs : List Region) → overlap_of rs ≡ None → HaveNoOverlap rs
-none_told rs none = have_none 0 rs none
+none_told rs none = have_none 0 rs (sym (overlap_of-from rs) ∙ none)
 
 pub ruleset overlaps = (told_least, none_told)
 

@@ -1,4 +1,5 @@
 pub mod LaidLemmas
+pub mod OverlapLemmas
 pub mod PageLemmas
 pub mod SetPageLemmas
 pub mod MapLemmas

@@ -1,8 +1,7 @@
 -- That the pages of memory are pieces of the laid out bytes, and what of them a write changes.
-use Rattle.std.proofs.Common.{◌≡◌, ◌≢◌, ℕ, zero, suc, ◌+◌, ◌-◌, ◌*◌, ◌/◌, ◌<◌, ◌≤◌, List, [], ◌∷◌, ◌++◌, length, take, drop, map, set, get_or, sum_by, Bool, true, false, cond, not, ◌&&◌, nat_lt, nat_le, min, max, refl, sym, ap, ◌∙◌, arith, inl, inr, if◌then◌else◌, add-one}
+use Rattle.std.proofs.Common.{◌≡◌, ◌≢◌, ℕ, zero, suc, ◌+◌, ◌-◌, ◌*◌, ◌/◌, ◌<◌, ◌≤◌, List, [], ◌∷◌, ◌++◌, length, take, drop, map, set, get_or, sum_by, Bool, true, false, cond, ◌&&◌, nat_lt, nat_le, min, max, refl, sym, ap, ◌∙◌, arith, inl, inr, if◌then◌else◌, add-one}
 use Rattle.std.specs.Prelude.{Option, Some, None, is_some, position}
-use Rattle.std.specs.Option.{option_map, option_or}
-use Rattle.std.specs.List.{prefix_len}
+use Rattle.std.specs.Option.{option_map}
 use Rattle.std.specs.Ordering.{nat_cmp, eq_by_cmp}
 use Rattle.std.specs.FinMap as fin
 use Rattle.std.proofs.lemmas.Bool.Decides.{nat_tests}
@@ -11,11 +10,12 @@ use Rattle.std.proofs.lemmas.Cmp.{nat_cmp_total}
 use Rattle.std.proofs.lemmas.List.{ext_get_or, get_or_append_left, get_or-append_right, get_or-map, get_or-set_same, get_or-set_other, get_or-take, get_or-drop, length-append, length-map, length-set, length-take, length-drop, take-map, drop-map, drop_more}
 use Rattle.std.proofs.lemmas.List.Edits.{sets}
 use Rattle.std.proofs.lemmas.List.Sums.{sum_by-cons}
-use Rattle.om_mem.specs.Contents.{holds, shares, region_at, overlap_from, overlap_of, stored}
+use Rattle.om_mem.specs.Contents.{holds, region_at, overlap_of, stored}
 use Rattle.om_mem.specs.Laid.{laid, place_of, IsSame}
 use Rattle.om_mem.specs.Pages.{IsKept, counted, addresses_of, page_addresses, page_in, byte_in, flag}
 use Rattle.om_mem.specs.declared.region.Region.{Region}
-use Rattle.om_mem.proofs.LaidLemmas.{get-laid}
+use Rattle.om_mem.proofs.LaidLemmas.{get-laid, hit, holds-true, miss}
+use Rattle.om_mem.proofs.OverlapLemmas.{overlap_from, overlap_of-from, overlap_parts, position_none, shares}
 
 -- ---- regions apart
 
@@ -25,44 +25,11 @@ AreApart [] = Unit {0}
 AreApart (r ∷ rs) = (position (shares r) rs ≡ None) × AreApart rs
 
 apart_from : (n : ℕ) (rs : List Region) → overlap_from n rs ≡ None → AreApart rs
-apart_from n [] e = tt
-apart_from n (r ∷ rs) e =
-    elim (position (shares r) rs) as (λ p. option_or (option_map (λ k. (n, n + 1 + k)) p) (overlap_from (n + 1) rs) ≡ None → (p ≡ None) × AreApart rs) [
-      | None ↦ λ is. (refl, apart_from (n + 1) rs is)
-      | Some k ↦ λ is. absurd (cc)
-    ] e
+apart_from n [] none = tt
+apart_from n (r ∷ rs) none = let parts = overlap_parts n r rs none in (parts.0, apart_from (n + 1) rs parts.1)
 
 pub are_apart : (rs : List Region) → overlap_of rs ≡ None → AreApart rs
-are_apart rs e = apart_from 0 rs e
-
--- a place, if it is before the end
-abbrev position_by : ℕ → ℕ → Option ℕ
-position_by k n = cond (nat_lt k n) (Some k) None
-
--- what isn't found isn't the first, and isn't behind it
-pub position_none : {X : Type 0} (p : X → Bool) (x : X) (xs : List X) → position p (x ∷ xs) ≡ None → (p x ≡ false) × (position p xs ≡ None)
-position_none p x xs e =
-    elim (p x) as (λ b. position_by (cond (not b) (1 + prefix_len (λ y. not (p y)) xs) 0) (suc (length xs)) ≡ None → (b ≡ false) × (position p xs ≡ None)) [
-      | true ↦ λ is. absurd (first (length xs) is)
-      | false ↦ λ is. (refl, later (prefix_len (λ y. not (p y)) xs) (length xs) is)
-    ] e
-  where
-    first : (n : ℕ) → position_by 0 (suc n) ≡ None → ⊥
-    first n is = grind (arith, nat_tests)
-
-    later : (k n : ℕ) → position_by (1 + k) (suc n) ≡ None → position_by k n ≡ None
-    later k n is = grind (arith, nat_tests)
-
--- an entry whose key is sought is found
-hit : (q a b : ℕ) (rest : Option ℕ) → q ≡ a → cond (eq_by_cmp nat_cmp q a) (Some b) rest ≡ Some b
-hit q a b rest e = grind (arith, nat_tests)
-
--- an entry of another key is passed
-miss : (q a b : ℕ) (rest : Option ℕ) → q ≢ a → cond (eq_by_cmp nat_cmp q a) (Some b) rest ≡ rest
-miss q a b rest ne = grind (arith, nat_tests)
-
-held : (low size q : ℕ) → (nat_le low q && nat_lt q (low + size)) ≡ true → (low ≤ q) × (q < low + size)
-held low size q is = grind (arith, nat_tests)
+are_apart rs none = apart_from 0 rs (sym (overlap_of-from rs) ∙ none)
 
 holding : (low size k : ℕ) → k < size → (nat_le low (low + k) && nat_lt (low + k) (low + size)) ≡ true
 holding low size k less = grind (arith, nat_tests)
@@ -113,7 +80,7 @@ address_at-place (r ∷ rs) q f at =
     let front = length-counted r.low r.size in
     elim (holds r q) as (λ b. holds r q ≡ b → (if b then Some (q - r.low, r.rights) else option_map (λ (found : ℕ × ℕ). (r.size + found.0, found.1)) (place_of rs q)) ≡ Some f → (get_or (counted r.low r.size ++ addresses_of rs) f.0 0 ≡ q) × (f.0 < sum_by (λ (s : Region). s.size) (r ∷ rs))) [
       | true ↦ λ is found.
-          let inside = held r.low r.size q is in
+          let inside = holds-true r.low r.size q is in
           let place : f.0 ≡ q - r.low = cc in
           rw place (get_or_append_left (counted r.low r.size) (addresses_of rs) 0 (q - r.low) (omega arith) ∙ get_or-counted r.low r.size (q - r.low) (omega arith) ∙ (omega arith), omega arith)
       | false ↦ λ _ found. behind (λ g is. address_at-place rs q g is) (place_of rs q) refl found

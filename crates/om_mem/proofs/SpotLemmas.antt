@@ -1,18 +1,19 @@
 -- What is known of the addresses of one region.
-use Rattle.std.proofs.Common.{◌≡◌, ◌≢◌, ℕ, zero, suc, ◌+◌, ◌-◌, ◌*◌, ◌%◌, ◌^◌, ◌<◌, ◌≤◌, List, [], ◌∷◌, length, take, drop, get_or, sum_by, Bool, true, false, cond, not, ◌&&◌, nat_eq, nat_lt, nat_le, max, min, refl, ap, subst, ◌∙◌, arith, zero-add, add-one, drop-cons, if◌then◌else◌}
+use Rattle.std.proofs.Common.{◌≡◌, ◌≢◌, ℕ, zero, suc, ◌+◌, ◌-◌, ◌*◌, ◌%◌, ◌^◌, ◌<◌, ◌≤◌, List, [], ◌∷◌, length, take, drop, get_or, sum_by, Bool, true, false, cond, not, ◌&&◌, nat_eq, nat_lt, nat_le, max, min, refl, sym, ap, subst, ◌∙◌, arith, zero-add, add-one, drop-cons, if◌then◌else◌}
 use Rattle.std.specs.Prelude.{Option, Some, None, find, bit_and}
-use Rattle.std.specs.Option.{option_map, option_map_or, option_or, option_and_then}
+use Rattle.std.specs.Option.{option_map, option_map_or, option_and_then}
 use Rattle.std.specs.List.{list_all, position, prefix_len}
 use Rattle.std.specs.FinMap as fin
 use Rattle.std.proofs.lemmas.Bool.Decides.{nat_tests}
 use Rattle.std.proofs.lemmas.List.Sums.{sum_by-cons, sum_by-drop_more, sum_by-take-drop}
 use Rattle.std.proofs.lemmas.List.Elements.{All-get_or}
 use Rattle.om_base.specs.Numbers.{le}
-use Rattle.om_mem.specs.Contents.{Contents, loaded, fetched, holds, shares, overlap_from, may_at, addresses_from, bytes_at}
+use Rattle.om_mem.specs.Contents.{Contents, loaded, fetched, holds, may_at, addresses_from, bytes_at}
 use Rattle.om_mem.specs.Laid.{laid, place_of, AreMapped, IsSpot}
 use Rattle.om_mem.specs.declared.region.Region.{Region}
 use Rattle.om_mem.specs.declared.spot.Spot.{Spot}
 use Rattle.om_mem.proofs.LaidLemmas.{get-laid}
+use Rattle.om_mem.proofs.OverlapLemmas.{overlap_from, overlap_of-from, overlap_parts, shares}
 use Rattle.om_mem.proofs.PageLemmas.{regions-laid}
 
 -- ---- regions apart
@@ -44,10 +45,6 @@ none-passes p rs i d none below =
       | false ↦ λ e. refl
     ] passes
 
-overlap-parts : {A B : Type 0} (f : A → B) (o : Option A) (rest : Option B) → option_or (option_map f o) rest ≡ None → (o ≡ None) × (rest ≡ None)
-overlap-parts f None rest e = (refl, e)
-overlap-parts f (Some x) rest e = absurd (cc)
-
 -- the place of a region's address
 pub place_of-region : (n : ℕ) (rs : List Region) (i k : ℕ) (d : Region) → overlap_from n rs ≡ None → i < length rs → k < (get_or rs i d).size → place_of rs ((get_or rs i d).low + k) ≡ Some (sum_by (λ r. r.size) (take i rs) + k, (get_or rs i d).rights)
 place_of-region n [] i k d apart below less = absurd (omega arith)
@@ -56,7 +53,7 @@ place_of-region n (r ∷ rs) zero k d apart below less =
     let back : (r.low + k) - r.low ≡ k = omega arith in
     rw (inside, back, zero-add) refl
 place_of-region n (r ∷ rs) (suc i) k d apart below less =
-    let parts = overlap-parts _ (position (shares r) rs) (overlap_from (n + 1) rs) apart in
+    let parts = overlap_parts n r rs apart in
     let s = get_or rs i d in
     let unshared = none-passes (shares r) rs i d parts.0 (omega arith) in
     let outside : holds r (s.low + k) ≡ false = apart-holds r.low r.size s.low s.size k unshared less in
@@ -72,7 +69,7 @@ region-spot rs i at d mapped below place =
     let more = sum_by-drop_more (λ (r : Region). r.size) rs i d below in
     let start : sum_by (λ (r : Region). r.size) (take i rs) ≡ at = omega arith in
     record {
-      place = λ k less. rw (← start) (place_of-region 0 rs i k d mapped.apart below less);
+      place = λ k less. rw (← start) (place_of-region 0 rs i k d (sym (overlap_of-from rs) ∙ mapped.apart) below less);
       ends = All-get_or (λ (r : Region). r.low + r.size ≤ 2 ^ 32) rs i d below mapped.ends;
       within = omega arith;
     }

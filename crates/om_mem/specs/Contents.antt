@@ -1,11 +1,13 @@
 -- Memory: regions of addresses, and a byte for each address of a region.
-use Rattle.std.specs.Prelude.{◌≡◌, ℕ, zero, suc, ◌+◌, ◌-◌, ◌^◌, ◌%◌, ◌/◌, Bool, false, not, ◌&&◌, nat_eq, nat_lt, nat_le, bit_and, min, max, if◌then◌else◌, List, [], ◌∷◌, ◌++◌, length, get_or, map, flat_map, position, find, replicate, Option, Some, None, is_some, refl}
+use Rattle.std.specs.Prelude.{◌≡◌, ℕ, zero, suc, ◌+◌, ◌-◌, ◌^◌, ◌%◌, ◌/◌, Bool, false, not, ◌&&◌, nat_eq, nat_lt, nat_le, bit_and, if◌then◌else◌, List, [], ◌∷◌, ◌++◌, length, get_or, map, flat_map, find, replicate, Option, Some, None, is_some, refl}
 use Rattle.std.specs.List.{list_all}
-use Rattle.std.specs.Option.{option_map, option_map_or, option_or, option_and_then}
+use Rattle.std.specs.Option.{option_map, option_map_or, option_and_then}
 use Rattle.std.specs.Ordering.{nat_cmp}
 use Rattle.std.specs.FinMap as fin
 use Rattle.std.specs.Coded.{Coded, code_by, coded×, coded_ℕ, coded_list}
 use Rattle.om_base.specs.Numbers.{le}
+use Rattle.om_base.specs.Spans as spans
+use Rattle.om_base.specs.declared.span.Span.{Span}
 use Rattle.om_mem.specs.declared.region.Region.{Region}
 
 -- what memory is: its regions, and the bytes at their addresses
@@ -19,19 +21,13 @@ pub record Contents : Type 0 where
 abbrev pub holds : Region → ℕ → Bool
 holds r address = nat_le r.low address && nat_lt address (r.low + r.size)
 
--- two regions share an address
-abbrev pub shares : Region → Region → Bool
-shares r s = nat_lt (max r.low s.low) (min (r.low + r.size) (s.low + s.size))
-
--- of the places from n on, the least pair whose regions share an address
-abbrev pub overlap_from : ℕ → List Region → Option (ℕ × ℕ)
-overlap_from n [] = None
-overlap_from n (r ∷ rs) =
-    option_or (option_map (λ k. (n, n + 1 + k)) (position (shares r) rs)) (overlap_from (n + 1) rs)
+-- the addresses of a region
+abbrev pub span_of : Region → Span
+span_of r = record { lo = r.low; hi = r.low + r.size }
 
 -- the least pair of places whose regions share an address, or none
 abbrev pub overlap_of : List Region → Option (ℕ × ℕ)
-overlap_of regions = overlap_from 0 regions
+overlap_of regions = spans.overlap_of (map span_of regions)
 
 -- the region that holds an address, if one does
 abbrev pub region_at : List Region → ℕ → Option Region

@@ -1,7 +1,7 @@
 //! Memory of some regions, all zeros.
 
-ghost use Rattle.std.specs.Prelude.{◌≡◌, ◌+◌, ◌^◌, ◌<◌, ◌≤◌, false, length, position, replicate, sum_by, All, IfOk, IfSome};
-ghost use Rattle.om_mem.specs.Contents.{all_zeros, overlap_of, shares};
+ghost use Rattle.std.specs.Prelude.{◌≡◌, ◌+◌, ◌^◌, ◌<◌, ◌≤◌, false, length, map, replicate, sum_by, All, IfOk};
+ghost use Rattle.om_mem.specs.Contents.{all_zeros, overlap_of, span_of};
 ghost use Rattle.om_mem.specs.Gives.{Gives};
 ghost use Rattle.om_mem.specs.Pages.{page_count};
 
@@ -10,32 +10,18 @@ use crate::memory::Memory;
 use crate::pages::PAGE_SIZE;
 use crate::region::{Region, Regions};
 use crate::spot::Spot;
-use om_base::NoMemory;
+use om_base::{NoMemory, Span, overlap};
 use std::alloc::Global;
 
-/// The place of the first region that shares an address with `region`.
-fn first_sharing(region: &Region, others: &[Region]) -> Option<usize>
-    ensures place { result ≡ position (shares region.now) others.now }
-    ensures within { IfSome result (λ place. place < length others.now) }
+/// The addresses of each region.
+fn spans_of(alloc: Global, regions: &[Region]) -> Result<Vec<Span>, NoMemory>
+    ensures { IfOk result (λ spans. spans.items ≡ map span_of regions.now) }
 {
-    others.iter().position(|other| region.shares(other))
-}
-
-/// The least pair of places whose regions share an address, if any do.
-fn overlap(regions: &[Region]) -> Option<(u32, u32)>
-    requires { length regions.now < 2 ^ 32 }
-    ensures { result ≡ overlap_of regions.now }
-{
-    let mut a = 0;
-    let mut rest = regions;
-    while let Some((region, others)) = rest.split_first() {
-        if let Some(place) = first_sharing(region, others) {
-            return Some((a, a + 1 + place as u32));
-        }
-        a += 1;
-        rest = others;
+    let mut spans = Vec::new(alloc);
+    for region in regions {
+        spans.push(region.span())?;
     }
-    None
+    Ok(spans)
 }
 
 /// How many bytes the regions have.
@@ -90,7 +76,8 @@ pub fn map_regions(alloc: Global, regions: &Regions) -> Result<Memory, MapFault>
         (record { contents = all_zeros regions.now; dirty = replicate (page_count regions.now) false }) result }
 {
     let listed = regions.as_slice();
-    if let Some((a, b)) = overlap(listed) {
+    let spans = spans_of(alloc, listed)?;
+    if let Some((a, b)) = overlap(spans.as_slice()) {
         return Err(MapFault::Overlap { a, b });
     }
     let size = total(listed);

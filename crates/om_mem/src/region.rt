@@ -1,9 +1,9 @@
 //! A region of memory.
 
 ghost use Rattle.std.specs.Prelude.{◌≡◌, ◌+◌, ◌^◌, ◌≤◌};
-ghost use Rattle.om_mem.specs.Contents.{holds, shares};
+ghost use Rattle.om_mem.specs.Contents.{holds, span_of};
 
-use om_base::Items;
+use om_base::{Items, Span};
 
 /// Addresses from `low` on, with the rights of each of them.
 #[derive(Clone, Copy, Debug, PartialEq, Eq)]
@@ -25,18 +25,14 @@ impl Region {
         self.low <= address && address - self.low < self.size
     }
 
-    /// Whether the two have an address in common.
-    pub fn shares(&self, other: &Region) -> bool
-        ensures { result ≡ shares self.now other.now }
+    /// Its addresses.
+    pub(crate) fn span(&self) -> Span
+        ensures { result ≡ span_of self.now }
     {
-        u64::from(self.low.max(other.low)) < self.end().min(other.end())
-    }
-
-    /// The address after its greatest one.
-    fn end(&self) -> u64
-        ensures { result ≡ self.now.low + self.now.size }
-    {
-        u64::from(self.low) + u64::from(self.size)
+        Span {
+            lo: u64::from(self.low),
+            hi: u64::from(self.low) + u64::from(self.size),
+        }
     }
 }
 
