@@ -1,10 +1,10 @@
 -- That putting back a core and pages gives the state that they are of.
-use Rattle.std.proofs.Common.{◌≡◌, ◌≢◌, ◌⊎◌, ℕ, ◌+◌, ◌<◌, ◌≤◌, List, Some, None, nat_eq, true, false, refl, sym, ap, subst, ◌∙◌, arith, inl, inr}
+use Rattle.std.proofs.Common.{◌≡◌, ◌⊎◌, ℕ, ◌+◌, ◌<◌, ◌≤◌, List, None, nat_eq, true, false, refl, sym, ap, subst, ◌∙◌, arith, inl, inr}
 use Rattle.std.specs.Prelude.{Option, unwrap_or}
 use Rattle.std.proofs.lemmas.Bool.Decides.{nat_tests}
 use Rattle.om_mem.proofs.LawLemmas.{same_pages}
 use Rattle.om_mem.specs.Contents.{Contents, IsWhole}
-use Rattle.om_mem.specs.Pages.{page_count, page_in, with_page}
+use Rattle.om_mem.specs.Pages.{page_count, page_in}
 use Rattle.om_step.specs.Back.{IsBack, IsPut}
 use Rattle.om_step.specs.State.{State}
 use Rattle.om_step.specs.declared.register_file.Core.{Core}
@@ -23,20 +23,6 @@ page_cases page next h = elim (nat_eq page next) as (λ b. nat_eq page next ≡ 
   | true ↦ λ e. inl (grind (arith, nat_tests))
   | false ↦ λ e. inr (grind (arith, nat_tests))
 ] refl
-
--- a page that is given was put
-pub put_more : (before now later : Contents) (bytes_at : ℕ → Option (List ℕ)) (next : ℕ) (bytes : List ℕ)
-    → bytes_at next ≡ Some bytes → later ≡ with_page now next bytes → page_in later next ≡ bytes
-    → ((other : ℕ) → other ≢ next → page_in later other ≡ page_in now other)
-    → PutSoFar before now bytes_at next → PutSoFar before later bytes_at (next + 1)
-put_more before now later bytes_at next bytes given is there others so = record {
-  regions = ap (λ (c : Contents). c.regions) is ∙ so.regions;
-  put = λ page h. elim (page_cases page next h) as (λ _. page_in later page ≡ unwrap_or (bytes_at page) (page_in before page)) [
-    | inl same ↦ subst (λ (p : ℕ). page_in later p ≡ unwrap_or (bytes_at p) (page_in before p)) (sym same) (there ∙ ap (λ (o : Option (List ℕ)). unwrap_or o (page_in before next)) (sym given))
-    | inr less ↦ others page (λ e. omega arith) ∙ so.put page less
-  ];
-  left = λ page h. others page (λ e. omega arith) ∙ so.left page (omega arith);
-}
 
 -- a page that isn't given was left
 pub put_none : (before now : Contents) (bytes_at : ℕ → Option (List ℕ)) (next : ℕ) → bytes_at next ≡ None

@@ -20,8 +20,8 @@ abbrev pub register : State → ℕ → ℕ
 register s number = slice_index s.registers number
 
 -- a write to a register; one to x0 is dropped
-abbrev pub written : List ℕ → ℕ → ℕ → List ℕ
-written registers number value = if nat_eq number 0 then registers else slice_set registers number value
+abbrev pub with_register : List ℕ → ℕ → ℕ → List ℕ
+with_register registers number value = if nat_eq number 0 then registers else slice_set registers number value
 
 -- the pc and the registers alone
 abbrev pub core_of : State → Core

@@ -9,7 +9,7 @@ use Rattle.om_mem.specs.Contents.{Contents, after_write, fetched, loaded, low_by
 use Rattle.om_mem.specs.declared.region.Region.{Region}
 use Rattle.om_mem.specs.declared.writing.WriteOutside.{WriteOutside}
 use Rattle.om_step.specs.Actions.{action_of}
-use Rattle.om_step.specs.State.{State, register, written}
+use Rattle.om_step.specs.State.{State, register, with_register}
 use Rattle.om_step.specs.declared.action.Action.{Action}
 use Rattle.om_step.specs.declared.action.Action.TheVariants.{Go, Load, Store, Ask, Halt}
 use Rattle.om_step.specs.declared.cause.Cause.{Cause}
@@ -23,7 +23,7 @@ use Rattle.om_step.specs.declared.outcome.Touched.TheVariants.{Nothing, Reg, Byt
 abbrev pub action_by : State → Instr → Action
 action_by s i = action_of i.op i.rd (register s i.rs1) (register s i.rs2) i.imm s.pc
 
--- the action of a word, or the stop where no row of the instruction table has it
+-- the action of a word that was fetched; or the stop where none could be, or where no row of the instruction table has it
 abbrev pub action_by_word : State → Option ℕ → Action
 action_by_word s None = Halt Fetch
 action_by_word s (Some word) = action_or_illegal s (decoded word)
@@ -41,22 +41,22 @@ abbrev pub touched_by : ℕ → Touched
 touched_by number = if nat_eq number 0 then Nothing else Reg number
 
 -- a load touches its destination, if its bytes are there
-abbrev pub told_load : ℕ → Option ℕ → Outcome
-told_load rd None = Stop LoadStops
-told_load rd (Some value) = Next (touched_by rd)
+abbrev pub load_outcome : ℕ → Option ℕ → Outcome
+load_outcome rd None = Stop LoadStops
+load_outcome rd (Some value) = Next (touched_by rd)
 
 -- a store touches its bytes, if each of them may be written
-abbrev pub told_store : (address count : ℕ) → Option ℕ → Outcome
-told_store address count None = Next (Bytes address count)
-told_store address count (Some first) = Stop StoreStops
+abbrev pub store_outcome : (address count : ℕ) → Option ℕ → Outcome
+store_outcome address count None = Next (Bytes address count)
+store_outcome address count (Some first) = Stop StoreStops
 
--- what a step tells of an action
-abbrev pub told_by : State → Action → Outcome
-told_by s (Go rd value pc) = Next (touched_by rd)
-told_by s (Load rd address count extends) = told_load rd (loaded s.memory address count)
-told_by s (Store address count value) = told_store address count (outside s.memory.regions address count)
-told_by s Ask = Call
-told_by s (Halt cause) = Stop cause
+-- the outcome of an action
+abbrev pub outcome_by : State → Action → Outcome
+outcome_by s (Go rd value pc) = Next (touched_by rd)
+outcome_by s (Load rd address count extends) = load_outcome rd (loaded s.memory address count)
+outcome_by s (Store address count value) = store_outcome address count (outside s.memory.regions address count)
+outcome_by s Ask = Call
+outcome_by s (Halt cause) = Stop cause
 
 -- the address of the next instruction
 abbrev pub next_pc : State → ℕ
@@ -70,7 +70,7 @@ extended_if extends count value = if extends then extended (8 * count) (value % 
 abbrev pub after_load : State → (rd count : ℕ) → Bool → Option ℕ → State
 after_load s rd count extends None = s
 after_load s rd count extends (Some value) =
-    record s { pc = next_pc s; registers = written s.registers rd (extended_if extends count value) }
+    record s { pc = next_pc s; registers = with_register s.registers rd (extended_if extends count value) }
 
 -- the state after a store, if each of its bytes may be written
 abbrev pub after_store : State → (address count value : ℕ) → Option ℕ → State
@@ -80,7 +80,7 @@ after_store s address count value (Some first) = s
 
 -- the state that an action makes; at a call and at a stop nothing changes
 abbrev pub after : State → Action → State
-after s (Go rd value pc) = record s { pc = pc; registers = written s.registers rd value }
+after s (Go rd value pc) = record s { pc = pc; registers = with_register s.registers rd value }
 after s (Load rd address count extends) = after_load s rd count extends (loaded s.memory address count)
 after s (Store address count value) = after_store s address count value (outside s.memory.regions address count)
 after s Ask = s
@@ -88,7 +88,7 @@ after s (Halt cause) = s
 
 -- what happens at a state
 unfoldable pub outcome : State → Outcome
-outcome s = told_by s (action_at s)
+outcome s = outcome_by s (action_at s)
 
 -- the state after a step
 unfoldable pub next : State → State
@@ -109,14 +109,14 @@ after_writes memory (chunk ∷ chunks) = after_writes (after_write memory chunk.
 abbrev pub answered : State → ℕ → List Chunk → State
 answered s value writes = record {
   pc = next_pc s;
-  registers = written s.registers 10 value;
+  registers = with_register s.registers 10 value;
   memory = after_writes s.memory writes;
 }
 
--- what an answer tells: what the call wrote, or the first address that may not be written
-abbrev pub told_answer : List Chunk → Option ℕ → Result Touched WriteOutside
-told_answer writes None = Ok (TouchedCall writes)
-told_answer writes (Some address) = Err (record { addr = address })
+-- what answering gives: what the call wrote, or the first address that may not be written
+abbrev pub answer_result : List Chunk → Option ℕ → Result Touched WriteOutside
+answer_result writes None = Ok (TouchedCall writes)
+answer_result writes (Some address) = Err (record { addr = address })
 
 -- the state that an answer leaves: at a refusal nothing changes
 abbrev pub after_answer : State → ℕ → List Chunk → Option ℕ → State

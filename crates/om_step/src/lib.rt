@@ -27,4 +27,4 @@ pub use meter::StepMeter;
 pub use om_log::Start;
 pub use om_mem::{MapFault, Memory};
 pub use outcome::{Outcome, Touched};
-pub use register_file::Core;
+pub use register_file::{ARGUMENT_0, CALL_NUMBER, Core};

@@ -9,15 +9,12 @@ ghost use Rattle.om_step.specs.First.{first_standing, regions_of};
 ghost use Rattle.om_step.specs.State.{core_of, held_of, register, sum_of};
 
 use crate::first::first_memory;
-use crate::register_file::Core;
+use crate::register_file::{Core, STACK_POINTER};
 use om_elf::Elf;
 use om_log::Start;
 use om_mem::{MapFault, Memory};
 use std::alloc::Global;
 use std::marker::Model;
-
-/// The number of the register sp: RISC-V psABI, "Integer Register Convention".
-const STACK_POINTER: usize = 2;
 
 /// A RISC-V machine of 32 bits.
 #[derive(Debug, Drop)]
@@ -66,7 +63,7 @@ impl Machine {
     {
         let memory = first_memory(alloc, elf.segments.as_slice(), &start)?;
         let mut registers = [0; 32];
-        registers[STACK_POINTER] = start.stack_low + (start.stack_size - 16);
+        registers[STACK_POINTER as usize] = start.stack_low + (start.stack_size - 16);
         Ok(Machine {
             pc: elf.entry,
             registers,

@@ -6,8 +6,8 @@ ghost use Rattle.om_isa.specs.Table.{extended};
 ghost use Rattle.om_mem.specs.Contents.{fetched};
 ghost use Rattle.om_mem.specs.Pages.{IsKept};
 ghost use Rattle.om_step.specs.Acts.{IsSound, IsWidth};
-ghost use Rattle.om_step.specs.State.{held_of, register, written};
-ghost use Rattle.om_step.specs.Step.{AreElsewhere, SparesByte, SparesRegister, action_at, action_by, action_by_word, after, after_answer, after_writes, extended_if, next, outcome, outside_of, steps_of, told_answer, told_by, touched_by};
+ghost use Rattle.om_step.specs.State.{held_of, register, with_register};
+ghost use Rattle.om_step.specs.Step.{AreElsewhere, SparesByte, SparesRegister, action_at, action_by, action_by_word, after, after_answer, after_writes, extended_if, next, outcome, outside_of, steps_of, answer_result, outcome_by, touched_by};
 
 use crate::acting::action_of;
 use crate::action::Action;
@@ -15,12 +15,10 @@ use crate::cause::Cause;
 use crate::machine::Machine;
 use crate::meter::StepMeter;
 use crate::outcome::{Outcome, Touched};
+use crate::register_file::ARGUMENT_0;
 use om_isa::decode;
 use om_log::Writes;
 use om_mem::{Memory, WriteOutside};
-
-/// The number of the register a0.
-const ARGUMENT_0: usize = 10;
 
 /// What a write to a register touches.
 fn write_touches<'a>(number: u8) -> Touched<'a>
@@ -35,8 +33,8 @@ fn write_touches<'a>(number: u8) -> Touched<'a>
 /// Writes to a register, if that isn't x0, and tells what was written.
 fn write_register<'a>(registers: &mut [u32; 32], number: u8, value: u32) -> Touched<'a>
     requires { number < 32 }
-    ensures registers { registers.new ≡ written registers.old number value }
-    ensures told { result ≡ touched_by number }
+    ensures registers { registers.new ≡ with_register registers.old number value }
+    ensures touched { result ≡ touched_by number }
     ensures zero { slice_index registers.new 0 ≡ slice_index registers.old 0 }
     ensures others { (r : ℕ) → r ≢ number → slice_index registers.new r ≡ slice_index registers.old r }
 {
@@ -157,7 +155,7 @@ impl Machine {
         requires width { IsWidth count }
         requires meter { meter.old < 2 ^ 64 - 1 }
         ensures state { self.new.state ≡ after self.old.state (Action.Load rd address count extends) }
-        ensures told { result ≡ told_by self.old.state (Action.Load rd address count extends) }
+        ensures outcome { result ≡ outcome_by self.old.state (Action.Load rd address count extends) }
         ensures meter { meter.new ≡ meter.old + steps_of result }
         ensures waits { steps_of result ≡ 0 → self.new ≡ self.old }
         ensures dirty { self.new.dirty ≡ self.old.dirty }
@@ -183,7 +181,7 @@ impl Machine {
         requires width { IsWidth count }
         requires meter { meter.old < 2 ^ 64 - 1 }
         ensures state { self.new.state ≡ after self.old.state (Action.Store address count value) }
-        ensures told { result ≡ told_by self.old.state (Action.Store address count value) }
+        ensures outcome { result ≡ outcome_by self.old.state (Action.Store address count value) }
         ensures meter { meter.new ≡ meter.old + steps_of result }
         ensures waits { steps_of result ≡ 0 → self.new ≡ self.old }
         ensures kept { IsKept (held_of self.old) (held_of self.new) }
@@ -210,7 +208,7 @@ impl Machine {
     pub fn step<'a>(&mut self, meter: &mut StepMeter) -> Outcome<'a>
         requires { meter.old < 2 ^ 64 - 1 }
         ensures state { self.new.state ≡ next self.old.state }
-        ensures told { result ≡ outcome self.old.state }
+        ensures outcome { result ≡ outcome self.old.state }
         ensures meter { meter.new ≡ meter.old + steps_of result }
         ensures waits { steps_of result ≡ 0 → self.new ≡ self.old }
         ensures kept { IsKept (held_of self.old) (held_of self.new) }
@@ -288,7 +286,7 @@ impl Machine {
     ) -> Result<Touched<'a>, WriteOutside>
         requires call { outcome self.old.state ≡ Outcome.Call }
         requires meter { meter.old < 2 ^ 64 - 1 }
-        ensures told { result ≡ told_answer writes.entry (outside_of self.old.state.memory.regions writes.entry) }
+        ensures answer { result ≡ answer_result writes.entry (outside_of self.old.state.memory.regions writes.entry) }
         ensures state { self.new.state ≡ after_answer self.old.state value writes.entry
             (outside_of self.old.state.memory.regions writes.entry) }
         ensures meter { meter.new ≡ meter.old + (if is_ok result then 1 else 0) }
@@ -306,7 +304,7 @@ impl Machine {
             return Err(WriteOutside { addr });
         }
         do_writes(&mut self.memory, &writes);
-        self.registers[ARGUMENT_0] = value;
+        self.registers[ARGUMENT_0 as usize] = value;
         self.pc = self.pc.wrapping_add(4);
         meter.raise();
         Ok(Touched::Call(writes))
