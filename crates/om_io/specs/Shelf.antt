@@ -7,8 +7,8 @@ use Rattle.om_io.specs.declared.shelf.ShelfFail.{ShelfFail}
 use Rattle.om_io.specs.declared.shelf.ShelfFail.TheVariants.{Failed}
 
 -- the bytes of each name that is held
-abbrev pub Contents : Type 0
-Contents = List ℕ → Option (List ℕ)
+abbrev pub FilesByName : Type 0
+FilesByName = List ℕ → Option (List ℕ)
 
 -- so many bytes at most were taken
 abbrev pub FitsIn : ℕ → Taken → Type 0
@@ -30,8 +30,8 @@ pub record FailsByCount {T : Type 0} (before now : List ℕ → ℕ) (name : Lis
   pub failed : IsErrOf result Failed → Rose (before name) (now name)
 
 -- what is told now is what was held before, but that this name holds these bytes
-pub record Holds (before : Contents) (told : Option Contents) (name bytes : List ℕ) : Type 0 where
-  pub now : Contents
+pub record Holds (before : FilesByName) (told : Option FilesByName) (name bytes : List ℕ) : Type 0 where
+  pub now : FilesByName
   pub told_now : told ≡ Some now
   pub held : now name ≡ Some bytes
   pub others : (other : List ℕ) → other ≢ name → now other ≡ before other

@@ -121,6 +121,7 @@ impl Shelf for MemShelf {
         }
         Ok(Taken::Whole(Bytes::copy_of(alloc, bytes)?))
     }
+
     /// A put that fails is counted, unless memory for that is wanting.
     fn put(&mut self, alloc: Global, name: &str, bytes: &[u8]) -> Result<(), ShelfFail>
         ensures put { OnOk result (Holds (held_in self.old.files) (Some (held_in self.new.files)) name.now bytes.now) }

@@ -1,7 +1,7 @@
 //! Where files come from and go to.
 
 ghost use Rattle.std.specs.Prelude.{◌≡◌, ℕ, List, Option, IfSome, IfOk, OnOk, IsErrOf, ◌⊎◌};
-ghost use Rattle.om_io.specs.Shelf.{Contents, FitsIn, IsTakenOf, FailsByCount, Holds, NoneFalls};
+ghost use Rattle.om_io.specs.Shelf.{FilesByName, FitsIn, IsTakenOf, FailsByCount, Holds, NoneFalls};
 
 use om_base::{Bytes, NoMemory};
 use std::alloc::{AllocError, Global};
@@ -49,7 +49,7 @@ impl From<AllocError> for ShelfFail {
 /// Files by name.
 pub trait Shelf {
     /// What each name holds, where the shelf tells it.
-    ghost told: { Self → Option Contents };
+    ghost told: { Self → Option FilesByName };
 
     /// How often a file of each name could not be taken. No number falls.
     ghost failed_takes: { Self → List ℕ → ℕ };
