@@ -1,8 +1,8 @@
 -- The bounds of a log that was made.
-use Rattle.std.proofs.Common.{◌≡◌, ℕ, ◌+◌, ◌^◌, ◌≤◌, Bool, true, false, if◌then◌else◌, nat_lt, List, length, Option, Some, None, refl}
+use Rattle.std.proofs.Common.{◌≡◌, ℕ, ◌+◌, ◌^◌, ◌≤◌, Bool, true, false, if◌then◌else◌, nat_lt, List, Option, Some, None, refl}
 use Rattle.om_elf.specs.declared.elf.Elf.{Elf}
 use Rattle.om_mem.specs.Contents.{overlap_of}
-use Rattle.om_record.specs.Recording.{ending_of, heap_place, made, no_room, recorded_by, recorded_in, recording, start_of, Recording}
+use Rattle.om_record.specs.Recording.{ending_of, heap_place, made, no_room, recorded_in, recording, start_of}
 use Rattle.om_record.specs.declared.recorded.Recorded.{Recorded}
 use Rattle.om_record.proofs.EndLemmas.{end_within, is_ending}
 use Rattle.om_step.specs.First.{regions_of}

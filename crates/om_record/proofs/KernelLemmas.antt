@@ -1,5 +1,5 @@
 -- What holds of each answer of the kernel.
-use Rattle.std.proofs.Common.{◌≡◌, ℕ, ◌+◌, ◌^◌, ◌<◌, ◌≤◌, Bool, true, false, if◌then◌else◌, List, [], ◌∷◌, length, take, Option, Some, None, is_none, nat_eq, nat_le, ◌||◌, ◌&&◌, min, refl, ap, ◌∙◌, sym, subst, arith, length-take}
+use Rattle.std.proofs.Common.{◌≡◌, ℕ, ◌+◌, ◌^◌, ◌<◌, Bool, true, false, if◌then◌else◌, List, [], ◌∷◌, length, take, Option, Some, None, is_none, nat_eq, nat_le, ◌||◌, ◌&&◌, refl, ap, arith, length-take}
 use Rattle.std.specs.List.{AllByRecursion}
 use Rattle.std.specs.Option.{option_or}
 use Rattle.om_log.specs.Chunk.{Chunk}
@@ -7,7 +7,8 @@ use Rattle.om_log.specs.Grammar.{FitsChunk}
 use Rattle.om_log.specs.declared.start.Start.{Start}
 use Rattle.om_mem.specs.Contents.{are_mapped, outside}
 use Rattle.om_mem.specs.declared.region.Region.{Region}
-use Rattle.om_record.specs.Kernel.{Kernel, Answer, answer_brk, answer_read, answer_to, answer_write, answers, bad_address, bad_descriptor, is_exit, no_such_call, read_count, reads, takes, written}
+use Rattle.om_run.specs.Departure.{is_exit}
+use Rattle.om_record.specs.Kernel.{Kernel, Answer, answer_brk, answer_read, answer_to, answer_write, answers, bad_address, bad_descriptor, no_such_call, read_count, reads, takes, write_to}
 use Rattle.om_step.specs.State.{State, register}
 use Rattle.om_step.specs.Step.{outside_of}
 
@@ -48,11 +49,11 @@ taken_count kernel s = simp length-take (omega arith)
 
 -- ---- each byte that is written may be written
 
-written_inside : (regions : List Region) (address : ℕ) (bytes : List ℕ) → outside regions address (length bytes) ≡ None
-    → outside_of regions (written address bytes) ≡ None
+write_inside : (regions : List Region) (address : ℕ) (bytes : List ℕ) → outside regions address (length bytes) ≡ None
+    → outside_of regions (write_to address bytes) ≡ None
 unfolding outside_of
-written_inside regions address [] inside = refl
-written_inside regions address (b ∷ bytes) inside = ap (λ (o : Option ℕ). option_or o None) inside
+write_inside regions address [] inside = refl
+write_inside regions address (b ∷ bytes) inside = ap (λ (o : Option ℕ). option_or o None) inside
 
 none_inside : (regions : List Region) → outside_of regions [] ≡ None
 unfolding outside_of
@@ -61,7 +62,7 @@ none_inside regions = refl
 pub writes_inside : (start : Start) (kernel : Kernel) (s : State) → outside_of s.memory.regions (answer_to start kernel s).writes ≡ None
 writes_inside start kernel s =
     by_answer (λ (a : Answer). outside_of s.memory.regions a.writes ≡ None) start kernel s
-    (λ inside. written_inside s.memory.regions (register s 11) (take (read_count kernel s) kernel.left) (rw (taken_count kernel s) inside))
+    (λ inside. write_inside s.memory.regions (register s 11) (take (read_count kernel s) kernel.left) (rw (taken_count kernel s) inside))
     (λ k value. none_inside s.memory.regions)
 
 -- ---- the writes fit a log
@@ -70,12 +71,12 @@ pub record AreFew (writes : List Chunk) : Type 0 where
   pub few : length writes < 2 ^ 32
   pub each : AllByRecursion FitsChunk writes
 
-written_few : (address : ℕ) (bytes : List ℕ) → address < 2 ^ 32 → length bytes < 2 ^ 32 → AreFew (written address bytes)
-written_few address [] small short = record { few = omega arith; each = tt }
-written_few address (b ∷ bytes) small short = record { few = omega arith; each = ((small, short), tt) }
+write_few : (address : ℕ) (bytes : List ℕ) → address < 2 ^ 32 → length bytes < 2 ^ 32 → AreFew (write_to address bytes)
+write_few address [] small short = record { few = omega arith; each = tt }
+write_few address (b ∷ bytes) small short = record { few = omega arith; each = ((small, short), tt) }
 
 pub writes_few : (start : Start) (kernel : Kernel) (s : State) → register s 11 < 2 ^ 32 → AreFew (answer_to start kernel s).writes
 writes_few start kernel s small =
     by_answer (λ (a : Answer). AreFew a.writes) start kernel s
-    (λ inside. written_few (register s 11) (take (read_count kernel s) kernel.left) small (rw (taken_count kernel s) (omega arith)))
+    (λ inside. write_few (register s 11) (take (read_count kernel s) kernel.left) small (rw (taken_count kernel s) (omega arith)))
     (λ k value. record { few = omega arith; each = tt })

@@ -1,27 +1,28 @@
 -- That replaying a recorded log makes the run that was recorded.
-use Rattle.std.proofs.Common.{◌≡◌, ℕ, zero, suc, ◌+◌, ◌<◌, ◌≤◌, ◌%◌, ◌&&◌, Bool, true, false, not, if◌then◌else◌, nat_eq, nat_lt, List, [], ◌∷◌, ◌++◌, map, Option, Some, None, refl, ap, ◌∙◌, sym, subst, arith, inl, inr, ◌⊎◌, append_assoc, eq-eqb}
-use Rattle.std.specs.Option.{option_and_then, option_map, option_or}
+use Rattle.std.proofs.Common.{◌≡◌, ℕ, zero, suc, ◌+◌, ◌<◌, ◌≤◌, ◌%◌, ◌&&◌, Bool, true, false, not, if◌then◌else◌, nat_eq, nat_lt, List, [], ◌∷◌, ◌++◌, map, Option, Some, None, refl, ap, ◌∙◌, sym, subst, arith, inl, inr, append_assoc, eq-eqb}
+use Rattle.std.specs.Option.{option_and_then, option_or}
 use Rattle.std.proofs.lemmas.Bool.{cases_eq, cases_lt, lt-ltb, le-ltb, ne_eqb}
+use Rattle.om_base.specs.Firsts.{first_of}
 use Rattle.om_elf.specs.declared.elf.Elf.{Elf}
 use Rattle.om_log.specs.declared.entry.Entry.{Entry}
 use Rattle.om_log.specs.declared.entry.Entry.TheVariants as entry
 use Rattle.om_log.specs.declared.start.Start.{Start}
-use Rattle.om_record.specs.Kernel.{answer_to, is_exit}
-use Rattle.om_record.specs.Recording.{Moment, after_moment, arguments_of, call_of, end_at, end_entry, ending_of, entries_at, entries_below, entries_of, exit_at, exits_by, mark_of, moment_at, served, start_of, stops_by, told_of}
+use Rattle.om_record.specs.Kernel.{answer_to}
+use Rattle.om_record.specs.Recording.{Moment, after_moment, arguments_of, call_of, end_at, end_entry, ending_of, entries_at, entries_below, entries_of, exit_end_at, end_by_exit, moment_at, start_of, end_by_stop}
 use Rattle.om_record.specs.Walk.{last_of}
-use Rattle.om_record.proofs.EndLemmas.{IsEnding, at_limit, at_step, before_end_none, cut, end_step, end_within, is_ending, one_more, or_some}
+use Rattle.om_record.proofs.EndLemmas.{IsEnding, at_limit, at_step, before_end_none, cut, end_within, is_ending, one_more, or_some}
 use Rattle.om_record.proofs.KernelLemmas.{writes_inside}
 use Rattle.om_record.proofs.RunLemmas.{below_next}
 use Rattle.om_run.proofs.RunLemmas.{first_departure_next}
-use Rattle.om_run.specs.Departure.{Broken, argument_of, broken, call_before, departs_at, departs_at_call, departs_at_end, departs_at_marks, departs_by, departs_for, departs_for_argument, departs_for_mark, departs_unmarked, departure_of, end_exit, end_stop, end_value, first_departure, first_of, number_of, passed, stops_with, write_outside}
+use Rattle.om_run.specs.Departure.{Broken, broken, call_before, departs_at, departs_at_call, departs_at_end, departs_at_marks, departs_by, departs_for, departs_for_argument, departs_unmarked, departure_of, first_departure, is_exit, write_outside}
 use Rattle.om_run.specs.Run.{Marked, after_by, below, due, end_of, marks_of, state_at}
 use Rattle.om_run.specs.declared.departure.Departure.{Departure}
-use Rattle.om_run.specs.declared.departure.Reason.TheVariants.{MarkPc, MarkSum, EndExit, EndValue, EndStop, Number, Outside, Passed}
-use Rattle.om_run.specs.declared.told.Ending.{Ending}
-use Rattle.om_run.specs.declared.told.Told.{Told}
+use Rattle.om_run.specs.declared.departure.Reason.TheVariants.{MarkPc, MarkSum, Number, Outside}
+use Rattle.om_run.specs.declared.logged.RunEnd.{RunEnd}
+use Rattle.om_run.specs.declared.logged.LoggedCall.{LoggedCall}
 use Rattle.om_step.specs.First.{first_state}
 use Rattle.om_step.specs.State.{State, register, sum_of}
-use Rattle.om_step.specs.Step.{code_of, outcome, outside_of}
+use Rattle.om_step.specs.Step.{code_of, outcome}
 use Rattle.om_step.specs.declared.cause.Cause.{Cause}
 use Rattle.om_step.specs.declared.outcome.Outcome.{Outcome}
 use Rattle.om_step.specs.declared.outcome.Outcome.TheVariants.{Next, Call, Stop}
@@ -36,8 +37,8 @@ abbrev call_if : Bool → Start → Outcome → (i : ℕ) → Moment → List En
 call_if b start o i m = if b then call_of start o i m else []
 
 -- what a log tells of the call at which a moment stands
-abbrev told_call : Start → Moment → Told
-told_call start m = record {
+abbrev logged_call : Start → Moment → LoggedCall
+logged_call start m = record {
   number = register m.state 17;
   arguments = arguments_of m.state;
   result = (answer_to start m.kernel m.state).result;
@@ -45,10 +46,10 @@ told_call start m = record {
 }
 
 -- the call of a step, or what more entries tell
-abbrev due_by : Bool → Start → Outcome → Moment → Option Told → Option Told
+abbrev due_by : Bool → Start → Outcome → Moment → Option LoggedCall → Option LoggedCall
 due_by false start o m more = more
 due_by true start (Next touched) m more = more
-due_by true start Call m more = Some (told_call start m)
+due_by true start Call m more = Some (logged_call start m)
 due_by true start (Stop cause) m more = more
 
 -- the marks of a step, and those that more entries tell
@@ -67,10 +68,10 @@ no_end false true start Call i m more = refl
 no_end false true start (Stop cause) i m more = refl
 
 module _ (start : Start) (i j : ℕ) (m : Moment) (more : List Entry) where
-  pick_call : (b : Bool) → b ≡ true → (found other : Option Told) → (if b then found else other) ≡ found
+  pick_call : (b : Bool) → b ≡ true → (found other : Option LoggedCall) → (if b then found else other) ≡ found
   pick_call b is found other = ap (λ (x : Bool). if x then found else other) is
 
-  skip_call : (b : Bool) → b ≡ false → (found other : Option Told) → (if b then found else other) ≡ other
+  skip_call : (b : Bool) → b ≡ false → (found other : Option LoggedCall) → (if b then found else other) ≡ other
   skip_call b is found other = ap (λ (x : Bool). if x then found else other) is
 
   due_here : (b c : Bool) (o : Outcome) → nat_eq i j ≡ true
@@ -78,10 +79,10 @@ module _ (start : Start) (i j : ℕ) (m : Moment) (more : List Entry) where
   due_here true false o is = refl
   due_here false false o is = refl
   due_here true true (Next touched) is = refl
-  due_here true true Call is = pick_call (nat_eq i j) is (Some (told_call start m)) (due more j)
+  due_here true true Call is = pick_call (nat_eq i j) is (Some (logged_call start m)) (due more j)
   due_here true true (Stop cause) is = refl
   due_here false true (Next touched) is = refl
-  due_here false true Call is = pick_call (nat_eq i j) is (Some (told_call start m)) (due more j)
+  due_here false true Call is = pick_call (nat_eq i j) is (Some (logged_call start m)) (due more j)
   due_here false true (Stop cause) is = refl
 
   due_there : (b c : Bool) (o : Outcome) → nat_eq i j ≡ false
@@ -89,10 +90,10 @@ module _ (start : Start) (i j : ℕ) (m : Moment) (more : List Entry) where
   due_there true false o is = refl
   due_there false false o is = refl
   due_there true true (Next touched) is = refl
-  due_there true true Call is = skip_call (nat_eq i j) is (Some (told_call start m)) (due more j)
+  due_there true true Call is = skip_call (nat_eq i j) is (Some (logged_call start m)) (due more j)
   due_there true true (Stop cause) is = refl
   due_there false true (Next touched) is = refl
-  due_there false true Call is = skip_call (nat_eq i j) is (Some (told_call start m)) (due more j)
+  due_there false true Call is = skip_call (nat_eq i j) is (Some (logged_call start m)) (due more j)
   due_there false true (Stop cause) is = refl
 
   marked_by : (b : Bool) → (x : Bool) → b ≡ x → marked_if b m.state (marks_of more j) ≡ marked_if x m.state (marks_of more j)
@@ -221,7 +222,7 @@ same_states elf input limit (suc i) h =
     let m = moment_at elf input i in
     let start = start_of elf.segments in
     ap (λ (s : State). after_by (outcome s) (due (entries_of elf input limit) i) s) (same_states elf input limit i (omega arith))
-    ∙ ap (λ (told : Option Told). after_by (outcome m.state) told m.state) (due_in elf input limit i (omega arith))
+    ∙ ap (λ (logged : Option LoggedCall). after_by (outcome m.state) logged m.state) (due_in elf input limit i (omega arith))
     ∙ ap (λ (b : Bool). after_by (outcome m.state) (due_by b start (outcome m.state) m None) m.state) early
     ∙ after_same start (outcome m.state) m
 
@@ -244,16 +245,16 @@ marks_kept true i s =
 
 -- the call that a log tells as it was made
 arguments_kept : (start : Start) (i : ℕ) (m : Moment)
-    → first_of (map (departs_for_argument (told_call start m) i m.state) (0 ∷ 1 ∷ 2 ∷ 3 ∷ 4 ∷ 5 ∷ [])) ≡ None
+    → first_of (map (departs_for_argument (logged_call start m) i m.state) (0 ∷ 1 ∷ 2 ∷ 3 ∷ 4 ∷ 5 ∷ [])) ≡ None
 arguments_kept start i m =
     let s = m.state in
     rw (self_equal (register s 10), self_equal (register s 11), self_equal (register s 12), self_equal (register s 13), self_equal (register s 14), self_equal (register s 15)) refl
 
-call_kept : (start : Start) (i : ℕ) (m : Moment) → departs_at_call (Some (told_call start m)) i m.state ≡ None
+call_kept : (start : Start) (i : ℕ) (m : Moment) → departs_at_call (Some (logged_call start m)) i m.state ≡ None
 call_kept start i m =
     let s = m.state in
-    ap (λ (x : Option Broken). first_of (departs_for i Number x ∷ first_of (map (departs_for_argument (told_call start m) i s) (0 ∷ 1 ∷ 2 ∷ 3 ∷ 4 ∷ 5 ∷ [])) ∷ departs_for i Outside (write_outside (told_call start m) s) ∷ [])) (kept_rule (register s 17) (register s 17))
-    ∙ ap (λ (x : Option Departure). first_of (None ∷ x ∷ departs_for i Outside (write_outside (told_call start m) s) ∷ [])) (arguments_kept start i m)
+    ap (λ (x : Option Broken). first_of (departs_for i Number x ∷ first_of (map (departs_for_argument (logged_call start m) i s) (0 ∷ 1 ∷ 2 ∷ 3 ∷ 4 ∷ 5 ∷ [])) ∷ departs_for i Outside (write_outside (logged_call start m) s) ∷ [])) (kept_rule (register s 17) (register s 17))
+    ∙ ap (λ (x : Option Departure). first_of (None ∷ x ∷ departs_for i Outside (write_outside (logged_call start m) s) ∷ [])) (arguments_kept start i m)
     ∙ ap (λ (x : Option ℕ). first_of (None ∷ None ∷ departs_for i Outside (option_and_then (λ (address : ℕ). broken address s.pc) x) ∷ [])) (writes_inside start m.kernel s)
 
 -- an outcome isn't a stop
@@ -262,16 +263,16 @@ IsNoStop (Next touched) = Unit {0}
 IsNoStop Call = Unit {0}
 IsNoStop (Stop cause) = ⊥
 
-step_kept : (end : Ending) (start : Start) (o : Outcome) (i : ℕ) (m : Moment) → IsNoStop o → departs_by end o (due_by true start o m None) i m.state ≡ None
+step_kept : (end : RunEnd) (start : Start) (o : Outcome) (i : ℕ) (m : Moment) → IsNoStop o → departs_by end o (due_by true start o m None) i m.state ≡ None
 step_kept end start (Next touched) i m goes = refl
 step_kept end start Call i m goes = call_kept start i m
 step_kept end start (Stop cause) i m goes = absurd goes
 
-or_second : (a b : Option Ending) → option_or a b ≡ None → b ≡ None
+or_second : (a b : Option RunEnd) → option_or a b ≡ None → b ≡ None
 or_second None b is = is
 or_second (Some e) b is = cc
 
-no_stop_by : (b : Bool) (o : Outcome) (i : ℕ) → b ≡ true → (if b then stops_by o i else None) ≡ None → IsNoStop o
+no_stop_by : (b : Bool) (o : Outcome) (i : ℕ) → b ≡ true → (if b then end_by_stop o i else None) ≡ None → IsNoStop o
 no_stop_by b (Next touched) i is none = tt
 no_stop_by b Call i is none = tt
 no_stop_by true (Stop cause) i is none = cc
@@ -283,20 +284,20 @@ no_stop elf input limit i h =
     let o = outcome (moment_at elf input i).state in
     let none = before_end_none elf input limit (ending_of elf input limit) (is_ending elf input limit) i h in
     let within = end_within elf input limit (ending_of elf input limit) (is_ending elf input limit) in
-    no_stop_by (nat_lt i limit) o i (lt-ltb i limit (omega arith)) (or_second (exit_at elf input i) (if nat_lt i limit then stops_by o i else None) none)
+    no_stop_by (nat_lt i limit) o i (lt-ltb i limit (omega arith)) (or_second (exit_end_at elf input i) (if nat_lt i limit then end_by_stop o i else None) none)
 
 -- ---- the last step
 
 -- how a run ends: behind a call that exits, at the limit, or at a stop
-data IsEndOf (elf : Elf) (input : List ℕ) : Ending → Type 0 where
+data IsEndOf (elf : Elf) (input : List ℕ) : RunEnd → Type 0 where
   exits : (i : ℕ) → outcome (moment_at elf input i).state ≡ Call → is_exit (register (moment_at elf input i).state 17) ≡ true
       → IsEndOf elf input (record { step = suc i; cause = 0; value = register (moment_at elf input i).state 10 })
   cuts : (i : ℕ) → IsEndOf elf input (cut i)
   stops : (i : ℕ) (cause : Cause) → outcome (moment_at elf input i).state ≡ Stop cause
       → IsEndOf elf input (record { step = i; cause = 2; value = code_of cause })
 
-exits_how : (elf : Elf) (input : List ℕ) (i : ℕ) (o : Outcome) (b : Bool) (e : Ending) → outcome (moment_at elf input i).state ≡ o
-    → is_exit (register (moment_at elf input i).state 17) ≡ b → exits_by o (moment_at elf input i).state (suc i) ≡ Some e → IsEndOf elf input e
+exits_how : (elf : Elf) (input : List ℕ) (i : ℕ) (o : Outcome) (b : Bool) (e : RunEnd) → outcome (moment_at elf input i).state ≡ o
+    → is_exit (register (moment_at elf input i).state 17) ≡ b → end_by_exit o (moment_at elf input i).state (suc i) ≡ Some e → IsEndOf elf input e
 exits_how elf input i (Next touched) b e happens test is = cc
 exits_how elf input i Call true e happens test is =
     let same : Some (record { step = suc i; cause = 0; value = register (moment_at elf input i).state 10 }) ≡ Some e =
@@ -308,41 +309,41 @@ exits_how elf input i Call false e happens test is =
     sym (ap (λ (x : Bool). if x then Some (record { step = suc i; cause = 0; value = register (moment_at elf input i).state 10 }) else None) test) ∙ is in cc
 exits_how elf input i (Stop cause) b e happens test is = cc
 
-exit_how : (elf : Elf) (input : List ℕ) (i : ℕ) (e : Ending) → exit_at elf input i ≡ Some e → IsEndOf elf input e
+exit_how : (elf : Elf) (input : List ℕ) (i : ℕ) (e : RunEnd) → exit_end_at elf input i ≡ Some e → IsEndOf elf input e
 exit_how elf input zero e is = cc
 exit_how elf input (suc i) e is = exits_how elf input i (outcome (moment_at elf input i).state) (is_exit (register (moment_at elf input i).state 17)) e refl refl is
 
-stop_how : (elf : Elf) (input : List ℕ) (i : ℕ) (b : Bool) (o : Outcome) (e : Ending) → outcome (moment_at elf input i).state ≡ o
-    → (if b then stops_by o i else None) ≡ Some e → IsEndOf elf input e
+stop_how : (elf : Elf) (input : List ℕ) (i : ℕ) (b : Bool) (o : Outcome) (e : RunEnd) → outcome (moment_at elf input i).state ≡ o
+    → (if b then end_by_stop o i else None) ≡ Some e → IsEndOf elf input e
 stop_how elf input i false o e happens is = cc
 stop_how elf input i true (Next touched) e happens is = cc
 stop_how elf input i true Call e happens is = cc
 stop_how elf input i true (Stop cause) e happens is =
     let there : record { step = i; cause = 2; value = code_of cause } ≡ e = cc in subst (IsEndOf elf input) there (stops i cause happens)
 
-end_how : (elf : Elf) (input : List ℕ) (limit i : ℕ) (e : Ending) → end_at elf input limit i ≡ Some e → IsEndOf elf input e
+end_how : (elf : Elf) (input : List ℕ) (limit i : ℕ) (e : RunEnd) → end_at elf input limit i ≡ Some e → IsEndOf elf input e
 end_how elf input limit i e is =
-    elim (or_some (exit_at elf input i) (if nat_lt i limit then stops_by (outcome (moment_at elf input i).state) i else None) e is) [
+    elim (or_some (exit_end_at elf input i) (if nat_lt i limit then end_by_stop (outcome (moment_at elf input i).state) i else None) e is) [
       | inl here ↦ exit_how elf input i e here
       | inr here ↦ stop_how elf input i (nat_lt i limit) (outcome (moment_at elf input i).state) e refl here
     ]
 
-ending_how : (elf : Elf) (input : List ℕ) (limit : ℕ) (e : Ending) → IsEnding elf input limit e → IsEndOf elf input e
+ending_how : (elf : Elf) (input : List ℕ) (limit : ℕ) (e : RunEnd) → IsEnding elf input limit e → IsEndOf elf input e
 ending_how elf input limit e (at_limit all) = cuts limit
 ending_how elf input limit e (at_step k within is before) = end_how elf input limit k e is
 
 not_true : (b : Bool) → b ≡ true → not b ≡ false
 not_true b is = ap not is
 
--- the end is as it is told
-end_kept : (elf : Elf) (input : List ℕ) (e : Ending) → IsEndOf elf input e → (entries : List Entry)
-    → ((i : ℕ) → suc i ≡ e.step → outcome (moment_at elf input i).state ≡ Call → due entries i ≡ Some (told_call (start_of elf.segments) (moment_at elf input i)))
+-- the end is as it is logged
+end_kept : (elf : Elf) (input : List ℕ) (e : RunEnd) → IsEndOf elf input e → (entries : List Entry)
+    → ((i : ℕ) → suc i ≡ e.step → outcome (moment_at elf input i).state ≡ Call → due entries i ≡ Some (logged_call (start_of elf.segments) (moment_at elf input i)))
     → departs_at_end e (call_before entries e.step) (outcome (moment_at elf input e.step).state) e.step ≡ None
-end_kept elf input e (cuts i) entries told = refl
-end_kept elf input e (stops i cause happens) entries told =
+end_kept elf input e (cuts i) entries logged = refl
+end_kept elf input e (stops i cause happens) entries logged =
     rw (happens, self_equal (code_of cause)) refl
-end_kept elf input e (exits i calls test) entries told =
-    rw (told i refl calls, test, self_equal (register (moment_at elf input i).state 10)) refl
+end_kept elf input e (exits i calls test) entries logged =
+    rw (logged i refl calls, test, self_equal (register (moment_at elf input i).state 10)) refl
 
 -- ---- no departure
 
@@ -360,11 +361,11 @@ unmarked_kept elf input limit i h =
     let end = ending_of elf input limit in
     let start = start_of elf.segments in
     let m = moment_at elf input i in
-    let early = λ (e : Ending). departs_by e (outcome m.state) (due entries i) i m.state in
-    let late = λ (e : Ending). departs_at_end e (call_before entries e.step) (outcome m.state) i in
-    ap (λ (e : Ending). if nat_lt i e.step then early e else late e) (same_end elf input limit) ∙ elim (cases_lt i end.step) [
+    let early = λ (e : RunEnd). departs_by e (outcome m.state) (due entries i) i m.state in
+    let late = λ (e : RunEnd). departs_at_end e (call_before entries e.step) (outcome m.state) i in
+    ap (λ (e : RunEnd). if nat_lt i e.step then early e else late e) (same_end elf input limit) ∙ elim (cases_lt i end.step) [
       | inl before ↦ ap (λ (b : Bool). if b then early end else late end) (lt-ltb i end.step before)
-          ∙ ap (λ (told : Option Told). departs_by end (outcome m.state) told i m.state) (due_early elf input limit i before)
+          ∙ ap (λ (logged : Option LoggedCall). departs_by end (outcome m.state) logged i m.state) (due_early elf input limit i before)
           ∙ step_kept end start (outcome m.state) i m (no_stop elf input limit i before)
       | inr behind ↦ let last : i ≡ end.step = omega arith in
           ap (λ (b : Bool). if b then early end else late end) (le-ltb i end.step behind)
@@ -394,5 +395,5 @@ none_below elf input limit (suc n) h =
 pub no_departure : (elf : Elf) (input : List ℕ) (limit : ℕ) → departure_of (entries_of elf input limit) (first_state elf (start_of elf.segments)) ≡ None
 unfolding departure_of
 no_departure elf input limit =
-    ap (λ (e : Ending). first_departure (entries_of elf input limit) (first_state elf (start_of elf.segments)) (below (e.step + 1))) (same_end elf input limit)
+    ap (λ (e : RunEnd). first_departure (entries_of elf input limit) (first_state elf (start_of elf.segments)) (below (e.step + 1))) (same_end elf input limit)
     ∙ none_below elf input limit (last_of elf input limit + 1) (omega arith)

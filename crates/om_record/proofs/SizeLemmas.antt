@@ -1,23 +1,23 @@
 -- How many bytes a log that was made has.
-use Rattle.std.proofs.Common.{◌≡◌, ℕ, zero, suc, ◌+◌, ◌^◌, ◌<◌, ◌≤◌, Bool, true, false, if◌then◌else◌, nat_lt, List, [], ◌∷◌, ◌++◌, length, find, Option, Some, None, refl, ap, ◌∙◌, sym, subst, arith, append_assoc, length-append}
+use Rattle.std.proofs.Common.{◌≡◌, ℕ, suc, ◌+◌, ◌^◌, ◌≤◌, Bool, true, false, if◌then◌else◌, nat_lt, List, [], ◌∷◌, length, find, Option, Some, None, refl, ap, ◌∙◌, sym, arith, length-append}
 use Rattle.std.specs.Option.{option_or}
 use Rattle.std.proofs.lemmas.Bool.{ltb-false}
 use Rattle.std.proofs.lemmas.List.Folds.{find-append}
+use Rattle.om_base.specs.Limits.{most_bytes}
 use Rattle.om_elf.specs.declared.elf.Elf.{Elf}
-use Rattle.om_log.specs.Grammar.{header, spelling, spellings}
+use Rattle.om_log.specs.Grammar.{spelling}
 use Rattle.om_log.specs.LittleEndian.{le_bytes}
-use Rattle.om_log.specs.declared.entry.Entry.{Entry}
 use Rattle.om_mem.specs.Contents.{overlap_of}
-use Rattle.om_record.specs.Recording.{bytes_of, end_entry, ending_of, entries_below, entries_of, heap_place, log_of, made, most_bytes, no_room, recorded_by, recorded_in, recording, size_through, start_of, too_long_at, Recording}
-use Rattle.om_record.specs.Walk.{last_of, told_before}
+use Rattle.om_record.specs.Recording.{bytes_of, end_entry, ending_of, entries_below, entries_of, heap_place, log_of, made, no_room, recorded_by, recorded_in, recording, size_through, start_of, too_long_at}
+use Rattle.om_record.specs.Walk.{last_of}
 use Rattle.om_record.specs.declared.recorded.Recorded.{Recorded}
 use Rattle.om_record.proofs.EndLemmas.{one_more}
 use Rattle.om_record.proofs.TellingLemmas.{spellings_append, spellings_one}
 use Rattle.om_run.specs.Run.{below}
-use Rattle.om_run.specs.declared.told.Ending.{Ending}
+use Rattle.om_run.specs.declared.logged.RunEnd.{RunEnd}
 use Rattle.om_step.specs.First.{regions_of}
 
-end_bytes : (e : Ending) → length (spelling (end_entry e)) ≡ 14
+end_bytes : (e : RunEnd) → length (spelling (end_entry e)) ≡ 14
 unfolding spelling le_bytes
 end_bytes e = refl
 
@@ -47,9 +47,9 @@ size_is : (elf : Elf) (input : List ℕ) (limit : ℕ) → length (bytes_of (log
     ≡ size_through elf input limit (last_of elf input limit) (last_of elf input limit)
 unfolding entries_of
 size_is elf input limit =
-    let told = entries_below elf input limit (last_of elf input limit) (last_of elf input limit + 1) in
+    let logged = entries_below elf input limit (last_of elf input limit) (last_of elf input limit + 1) in
     let e = ending_of elf input limit in
-    simp (spellings_append told (end_entry e ∷ []), spellings_one (end_entry e), length-append) (omega (arith, end_bytes e))
+    simp (spellings_append logged (end_entry e ∷ []), spellings_one (end_entry e), length-append) (omega (arith, end_bytes e))
 
 by_size : (o : Option ℕ) (elf : Elf) (input : List ℕ) (limit : ℕ) (recorded : Recorded) → too_long_at elf input limit ≡ o
     → recorded_by o (log_of elf input limit) (ending_of elf input limit) ≡ made recorded → length recorded.bytes ≤ most_bytes
@@ -69,7 +69,7 @@ if_size true place o elf input limit recorded is = cc
 if_size false place o elf input limit recorded is = in_size o elf input limit recorded is
 
 pub made_short : (elf : Elf) (input : List ℕ) (limit : ℕ) (recorded : Recorded) → recording elf input limit ≡ made recorded
-    → length recorded.bytes ≤ 67_108_864
+    → length recorded.bytes ≤ most_bytes
 unfolding recording
 made_short elf input limit recorded is =
     if_size (nat_lt (2 ^ 32) ((start_of elf.segments).heap_low + (start_of elf.segments).heap_size)) (heap_place elf.segments)

@@ -1,5 +1,5 @@
--- What is told of a step: how it is spelled, and that it may stand in a log.
-use Rattle.std.proofs.Common.{◌≡◌, ◌≢◌, ℕ, ◌+◌, ◌^◌, ◌<◌, ◌≤◌, ◌%◌, ◌&&◌, Bool, true, false, if◌then◌else◌, nat_eq, nat_lt, List, [], ◌∷◌, ◌++◌, length, refl, ap, ◌∙◌, sym, subst, arith, append_assoc, inl, inr}
+-- What is logged of a step: how it is spelled, and that it may stand in a log.
+use Rattle.std.proofs.Common.{◌≡◌, ◌≢◌, ℕ, ◌+◌, ◌^◌, ◌<◌, ◌≤◌, List, [], ◌∷◌, ◌++◌, refl, ap, ◌∙◌, sym, arith, append_assoc, inl, inr}
 use Rattle.std.specs.List.{AllByRecursion}
 use Rattle.om_log.specs.Chunk.{Chunk}
 use Rattle.om_log.specs.Grammar.{AreLawful, Fits, FitsChunk, HasCause, HasEnd, IsEnd, MayStand, next_of, spelling, spellings, step_of}
@@ -7,12 +7,12 @@ use Rattle.om_log.specs.Writing.{IsShort, HasShortWrites}
 use Rattle.om_log.specs.declared.entry.Entry.{Entry}
 use Rattle.om_log.specs.declared.entry.Entry.TheVariants as entry
 use Rattle.om_log.specs.declared.start.Start.{Start}
-use Rattle.om_record.specs.Kernel.{Kernel, answer_to}
-use Rattle.om_record.specs.Recording.{Moment, arguments_of, end_entry, mark_of, told_of}
-use Rattle.om_record.specs.Walk.{AreBefore, told_at}
-use Rattle.om_record.proofs.KernelLemmas.{AreFew, writes_few}
-use Rattle.om_run.specs.declared.told.Ending.{Ending}
-use Rattle.om_step.specs.State.{State, register, sum_of}
+use Rattle.om_record.specs.Kernel.{answer_to}
+use Rattle.om_record.specs.Recording.{Moment, arguments_of, end_entry}
+use Rattle.om_record.specs.Walk.{AreBefore, call_entry_at}
+use Rattle.om_record.proofs.KernelLemmas.{writes_few}
+use Rattle.om_run.specs.declared.logged.RunEnd.{RunEnd}
+use Rattle.om_step.specs.State.{register}
 
 -- ---- spelling
 
@@ -35,7 +35,7 @@ spellings_append (x ∷ xs) ys =
     ap (λ (rest : List ℕ). spelling x ++ rest) (spellings_append xs ys) ∙ sym (append_assoc (spelling x) (spellings xs) (spellings ys))
 
 -- behind an END there are bytes
-pub some_end : (body : List ℕ) (e : Ending) → body ++ spelling (end_entry e) ≢ []
+pub some_end : (body : List ℕ) (e : RunEnd) → body ++ spelling (end_entry e) ≢ []
 unfolding spelling
 some_end [] e is = cc
 some_end (b ∷ body) e is = cc
@@ -77,15 +77,15 @@ shorter : (writes : List Chunk) → AllByRecursion FitsChunk writes → AllByRec
 shorter [] fit = tt
 shorter (w ∷ writes) fit = (fit.0.1, shorter writes fit.1)
 
-pub told_short : (start : Start) (step : ℕ) (m : Moment) → register m.state 11 < 2 ^ 32 → HasShortWrites (told_at start step m)
-told_short start step m small =
+pub call_short : (start : Start) (step : ℕ) (m : Moment) → register m.state 11 < 2 ^ 32 → HasShortWrites (call_entry_at start step m)
+call_short start step m small =
     let few = writes_few start m.kernel m.state small in
     (few.few, shorter (answer_to start m.kernel m.state).writes few.each)
 
-pub told_stands : (start : Start) (step : ℕ) (m : Moment) → step < 2 ^ 64 → register m.state 17 < 2 ^ 32
+pub call_stands : (start : Start) (step : ℕ) (m : Moment) → step < 2 ^ 64 → register m.state 17 < 2 ^ 32
     → AllByRecursion (λ (a : ℕ). a < 2 ^ 32) (arguments_of m.state) → (answer_to start m.kernel m.state).result < 2 ^ 32
-    → AreBefore step (step + 1) (told_at start step m ∷ [])
+    → AreBefore step (step + 1) (call_entry_at start step m ∷ [])
 unfolding Fits HasCause IsEnd next_of step_of
-told_stands start step m small number args value =
+call_stands start step m small number args value =
     let few = writes_few start m.kernel m.state args.1.0 in
     (record { fits = (small, number, refl, args, value, few.few, few.each); cause = tt; step = omega arith }, λ is. is, omega arith)

@@ -1,5 +1,5 @@
 -- That the recorder's walk is the run.
-use Rattle.std.proofs.Common.{◌≡◌, ℕ, zero, suc, ◌+◌, ◌-◌, ◌<◌, ◌≤◌, List, [], ◌∷◌, ◌++◌, refl, ap, ◌∙◌, sym, subst, arith, inl, inr, ◌⊎◌, None, Result, is_ok, if◌then◌else◌}
+use Rattle.std.proofs.Common.{◌≡◌, ℕ, ◌+◌, List, refl, ap, ◌∙◌, sym, arith, inl, inr, None, Result, is_ok, if◌then◌else◌}
 use Rattle.om_log.specs.Chunk.{Chunk}
 use Rattle.om_log.specs.declared.start.Start.{Start}
 use Rattle.om_mem.specs.declared.writing.WriteOutside.{WriteOutside}
@@ -9,7 +9,7 @@ use Rattle.om_record.specs.Walk.{GoesOn, IsWalk, moment, steps_on}
 use Rattle.om_record.proofs.KernelLemmas.{writes_inside}
 use Rattle.om_record.proofs.EndLemmas.{last_or, one_more}
 use Rattle.om_step.specs.State.{State}
-use Rattle.om_step.specs.Step.{after_answer, outcome, outside_of, next, told_answer}
+use Rattle.om_step.specs.Step.{after_answer, outcome, outside_of, next, answer_result}
 use Rattle.om_step.specs.declared.outcome.Touched.{Touched}
 
 -- ---- a walk
@@ -44,7 +44,7 @@ served_is start kernel later s after value writes is done =
 -- and a step was made
 pub served_step : (start : Start) (kernel later : Kernel) (s : State) (value : ℕ) (writes : List Chunk) (result : Result Touched WriteOutside) (before after : ℕ)
     → answer_to start kernel s ≡ record { result = value; writes = writes; kernel = later }
-    → result ≡ told_answer writes (outside_of s.memory.regions writes)
+    → result ≡ answer_result writes (outside_of s.memory.regions writes)
     → after ≡ before + (if is_ok result then 1 else 0) → after ≡ before + 1
-served_step start kernel later s value writes result before after is told made =
-    made ∙ ap (λ (r : Result Touched WriteOutside). before + (if is_ok r then 1 else 0)) (told ∙ ap (told_answer writes) (answered_is start kernel later s s value writes is))
+served_step start kernel later s value writes result before after is is_answer made =
+    made ∙ ap (λ (r : Result Touched WriteOutside). before + (if is_ok r then 1 else 0)) (is_answer ∙ ap (answer_result writes) (answered_is start kernel later s s value writes is))

@@ -1,8 +1,9 @@
 -- What the recorder's small kernel answers to a call. The numbers of calls and of errors are those of Linux on RISC-V.
-use Rattle.std.specs.Prelude.{ℕ, ◌+◌, Bool, ◌||◌, ◌&&◌, nat_eq, nat_le, min, is_none, if◌then◌else◌, List, [], ◌∷◌, length, take, drop}
+use Rattle.std.specs.Prelude.{ℕ, ◌+◌, ◌||◌, ◌&&◌, nat_eq, nat_le, min, is_none, if◌then◌else◌, List, [], ◌∷◌, length, take, drop}
 use Rattle.om_log.specs.Chunk.{Chunk}
 use Rattle.om_log.specs.declared.start.Start.{Start}
 use Rattle.om_mem.specs.Contents.{are_mapped, outside}
+use Rattle.om_run.specs.Departure.{is_exit}
 use Rattle.om_step.specs.State.{State, register}
 
 -- the input that wasn't taken yet, and the program break
@@ -30,10 +31,10 @@ no_such_call = 4_294_967_258
 abbrev pub answers : Kernel → ℕ → Answer
 answers kernel result = record { result = result; writes = []; kernel = kernel }
 
--- a write of some bytes, if there are any
-abbrev pub written : ℕ → List ℕ → List Chunk
-written address [] = []
-written address (b ∷ bytes) = record { addr = address; bytes = b ∷ bytes } ∷ []
+-- the write of some bytes to an address, if there are any
+abbrev pub write_to : ℕ → List ℕ → List Chunk
+write_to address [] = []
+write_to address (b ∷ bytes) = record { addr = address; bytes = b ∷ bytes } ∷ []
 
 -- ---- read: descriptor 0 is the input
 
@@ -45,7 +46,7 @@ read_count kernel s = min (register s 12) (min (length kernel.left) 65_536)
 abbrev pub takes : Kernel → (address count : ℕ) → Answer
 takes kernel address count = record {
   result = count;
-  writes = written address (take count kernel.left);
+  writes = write_to address (take count kernel.left);
   kernel = record kernel { left = drop count kernel.left };
 }
 
@@ -60,7 +61,7 @@ abbrev pub answer_read : Kernel → State → Answer
 answer_read kernel s =
     if nat_eq (register s 10) 0 then reads kernel s (read_count kernel s) else answers kernel bad_descriptor
 
--- ---- write: descriptors 1 and 2 take all bytes that are there to be read
+-- ---- write: descriptors 1 and 2 take all bytes, where a region holds each of them
 
 abbrev pub answer_write : Kernel → State → Answer
 answer_write kernel s =
@@ -77,10 +78,6 @@ answer_brk start kernel s =
     else answers kernel kernel.program_break
 
 -- ---- all calls
-
--- the number is that of a call that exits: exit, exit_group
-abbrev pub is_exit : ℕ → Bool
-is_exit number = nat_eq number 93 || nat_eq number 94
 
 -- the answer to the call at which a state stands: read, write, brk, exit, exit_group; there is no other call
 unfoldable pub answer_to : Start → Kernel → State → Answer

@@ -1,6 +1,8 @@
 -- The log that a run with an input makes: its regions, its states, its entries and its end.
-use Rattle.std.specs.Prelude.{◌≡◌, ℕ, zero, suc, ◌+◌, ◌*◌, ◌/◌, ◌%◌, ◌^◌, Bool, ◌&&◌, nat_eq, nat_lt, max, if◌then◌else◌, List, [], ◌∷◌, ◌++◌, length, map, filter, flat_map, find, Option, Some, None, unwrap_or, Result, Ok, Err}
-use Rattle.std.specs.Option.{option_map, option_or}
+use Rattle.std.specs.Prelude.{◌≡◌, ℕ, zero, suc, ◌+◌, ◌*◌, ◌/◌, ◌%◌, ◌^◌, ◌&&◌, nat_eq, nat_lt, max, if◌then◌else◌, List, [], ◌∷◌, ◌++◌, length, map, filter, flat_map, find, Option, Some, None, unwrap_or, Result, Ok, Err}
+use Rattle.std.specs.Option.{option_or}
+use Rattle.om_base.specs.Firsts.{first_of}
+use Rattle.om_base.specs.Limits.{most_bytes}
 use Rattle.om_elf.specs.Image.{Image}
 use Rattle.om_elf.specs.declared.elf.Elf.{Elf}
 use Rattle.om_log.specs.Grammar.{header, spellings}
@@ -9,14 +11,15 @@ use Rattle.om_log.specs.declared.entry.Entry.TheVariants as entry
 use Rattle.om_log.specs.declared.log.Log.{Log}
 use Rattle.om_log.specs.declared.start.Start.{Start}
 use Rattle.om_mem.specs.Contents.{overlap_of}
+use Rattle.om_run.specs.Departure.{is_exit}
 use Rattle.om_run.specs.Run.{below}
-use Rattle.om_run.specs.declared.told.Ending.{Ending}
+use Rattle.om_run.specs.declared.logged.RunEnd.{RunEnd}
 use Rattle.om_step.specs.First.{first_state, regions_of}
 use Rattle.om_step.specs.State.{State, register, sum_of}
 use Rattle.om_step.specs.Step.{outcome, next, answered, code_of}
 use Rattle.om_step.specs.declared.outcome.Outcome.{Outcome}
 use Rattle.om_step.specs.declared.outcome.Outcome.TheVariants.{Next, Call, Stop}
-use Rattle.om_record.specs.Kernel.{Kernel, Answer, answer_to, is_exit}
+use Rattle.om_record.specs.Kernel.{Kernel, Answer, answer_to}
 use Rattle.om_record.specs.declared.recorded.Recorded.{Recorded}
 use Rattle.om_record.specs.declared.recorded.RecordFault.{RecordFault}
 use Rattle.om_record.specs.declared.recorded.RecordFault.TheVariants.{NoMemory, TooLong, NoRoom}
@@ -78,35 +81,30 @@ moment_at elf input (suc i) =
 -- ---- the end
 
 -- the end at this step of a run that makes a call that exits just before
-abbrev pub exits_by : Outcome → State → ℕ → Option Ending
-exits_by (Next touched) s i = None
-exits_by Call s i = if is_exit (register s 17) then Some (record { step = i; cause = 0; value = register s 10 }) else None
-exits_by (Stop cause) s i = None
+abbrev pub end_by_exit : Outcome → State → ℕ → Option RunEnd
+end_by_exit (Next touched) s i = None
+end_by_exit Call s i = if is_exit (register s 17) then Some (record { step = i; cause = 0; value = register s 10 }) else None
+end_by_exit (Stop cause) s i = None
 
-abbrev pub exit_at : Elf → List ℕ → ℕ → Option Ending
-exit_at elf input zero = None
-exit_at elf input (suc i) = exits_by (outcome (moment_at elf input i).state) (moment_at elf input i).state (suc i)
+abbrev pub exit_end_at : Elf → List ℕ → ℕ → Option RunEnd
+exit_end_at elf input zero = None
+exit_end_at elf input (suc i) = end_by_exit (outcome (moment_at elf input i).state) (moment_at elf input i).state (suc i)
 
 -- the end at this step of a run that stops there
-abbrev pub stops_by : Outcome → ℕ → Option Ending
-stops_by (Next touched) i = None
-stops_by Call i = None
-stops_by (Stop cause) i = Some (record { step = i; cause = 2; value = code_of cause })
+abbrev pub end_by_stop : Outcome → ℕ → Option RunEnd
+end_by_stop (Next touched) i = None
+end_by_stop Call i = None
+end_by_stop (Stop cause) i = Some (record { step = i; cause = 2; value = code_of cause })
 
 -- the end at a step: behind a call that exits, or below the limit where the machine stops
-abbrev pub end_at : Elf → List ℕ → (limit i : ℕ) → Option Ending
+abbrev pub end_at : Elf → List ℕ → (limit i : ℕ) → Option RunEnd
 end_at elf input limit i =
-    option_or (exit_at elf input i) (if nat_lt i limit then stops_by (outcome (moment_at elf input i).state) i else None)
-
--- the first of some ends
-abbrev pub first_end : List (Option Ending) → Option Ending
-first_end [] = None
-first_end (e ∷ es) = option_or e (first_end es)
+    option_or (exit_end_at elf input i) (if nat_lt i limit then end_by_stop (outcome (moment_at elf input i).state) i else None)
 
 -- the end of the run: the first one up to the limit, at which it is cut
-unfoldable pub ending_of : Elf → List ℕ → (limit : ℕ) → Ending
+unfoldable pub ending_of : Elf → List ℕ → (limit : ℕ) → RunEnd
 ending_of elf input limit =
-    unwrap_or (first_end (map (end_at elf input limit) (below (limit + 1)))) (record { step = limit; cause = 1; value = 0 })
+    unwrap_or (first_of (map (end_at elf input limit) (below (limit + 1)))) (record { step = limit; cause = 1; value = 0 })
 
 -- ---- the entries
 
@@ -120,13 +118,13 @@ abbrev pub arguments_of : State → List ℕ
 arguments_of s = map (register s) (10 ∷ 11 ∷ 12 ∷ 13 ∷ 14 ∷ 15 ∷ [])
 
 -- what the log tells of a call with this answer
-abbrev pub told_of : ℕ → State → Answer → Entry
-told_of i s answer = entry.Call i (register s 17) (arguments_of s) answer.result answer.writes
+abbrev pub call_entry : ℕ → State → Answer → Entry
+call_entry i s answer = entry.Call i (register s 17) (arguments_of s) answer.result answer.writes
 
 -- a call stands at each step at which the run makes one
 abbrev pub call_of : Start → Outcome → ℕ → Moment → List Entry
 call_of start (Next touched) i m = []
-call_of start Call i m = told_of i m.state (answer_to start m.kernel m.state) ∷ []
+call_of start Call i m = call_entry i m.state (answer_to start m.kernel m.state) ∷ []
 call_of start (Stop cause) i m = []
 
 -- the entries of a step up to the last one, at which no call is made
@@ -141,7 +139,7 @@ entries_at elf input limit last i =
 abbrev pub entries_below : Elf → List ℕ → (limit last n : ℕ) → List Entry
 entries_below elf input limit last n = flat_map (entries_at elf input limit last) (below n)
 
-abbrev pub end_entry : Ending → Entry
+abbrev pub end_entry : RunEnd → Entry
 end_entry e = entry.End e.step e.cause e.value
 
 -- all entries: those of each step up to the last one, and the end
@@ -159,10 +157,6 @@ abbrev pub bytes_of : Log → List ℕ
 bytes_of log = header log.start ++ spellings log.entries
 
 -- ---- what is recorded
-
--- the most bytes that a log may have
-abbrev pub most_bytes : ℕ
-most_bytes = 67_108_864
 
 -- how many bytes the log has with the entries up to a step, and the 14 bytes of an end behind them
 abbrev pub size_through : Elf → List ℕ → (limit last i : ℕ) → ℕ
@@ -185,7 +179,7 @@ pub data Recording : Type 0 where
   no_room : (a b : ℕ) → Recording
 
 -- the log with its end, where it isn't too long
-abbrev pub recorded_by : Option ℕ → Log → Ending → Recording
+abbrev pub recorded_by : Option ℕ → Log → RunEnd → Recording
 recorded_by None log ending =
     made (record { bytes = bytes_of log; steps = ending.step; cause = ending.cause; value = ending.value })
 recorded_by (Some step) log ending = too_long step

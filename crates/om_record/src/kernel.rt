@@ -1,29 +1,22 @@
 //! The kernel of a recorded run: what it answers to each call, with the numbers of Linux on RISC-V.
 
 ghost use Rattle.std.specs.Prelude.{◌≡◌, ◌≤◌, [], length, min};
-ghost use Rattle.om_record.specs.Kernel.{Kernel, answer_brk, answer_read, answer_to, answer_write, answers, is_exit as exits, takes, written};
+ghost use Rattle.om_record.specs.Kernel.{Kernel, answer_brk, answer_read, answer_to, answer_write, answers, takes, write_to};
 
 use om_log::{Start, Write, Writes};
-use om_step::Machine;
+use om_run::is_exit;
+use om_step::{ARGUMENT_0, CALL_NUMBER, Machine};
 use std::marker::Model;
 
-/// The numbers of the registers a0 to a2, and of a7, which has a call's number.
-const ARGUMENT_0: u8 = 10;
+/// The numbers of the registers a1 and a2.
+const ARGUMENT_1: u8 = ARGUMENT_0 + 1;
 
-const ARGUMENT_1: u8 = 11;
-
-const ARGUMENT_2: u8 = 12;
-
-pub(crate) const CALL_NUMBER: u8 = 17;
+const ARGUMENT_2: u8 = ARGUMENT_0 + 2;
 
 /// The numbers of the calls.
 const READ: u32 = 63;
 
 const WRITE: u32 = 64;
-
-const EXIT: u32 = 93;
-
-const EXIT_GROUP: u32 = 94;
 
 const BRK: u32 = 214;
 
@@ -69,16 +62,9 @@ pub(crate) struct Reply<'a> {
     pub writes: Writes<'a>,
 }
 
-/// Whether a call of this number exits.
-pub(crate) fn is_exit(number: u32) -> bool
-    ensures { result ≡ exits number }
-{
-    number == EXIT || number == EXIT_GROUP
-}
-
 /// A write of the bytes, if there are any.
 fn write_at<'a>(addr: u32, bytes: &'a [u8]) -> Writes<'a>
-    ensures { result ≡ written addr bytes.now }
+    ensures { result ≡ write_to addr bytes.now }
 {
     if bytes.is_empty() {
         return Writes::none();

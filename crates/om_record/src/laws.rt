@@ -1,6 +1,7 @@
 //! The law of a recorded log: replaying it makes the run that was recorded. It has no code.
 
 ghost use Rattle.std.specs.Prelude.{◌≡◌, ◌≤◌, ℕ, List, None, length};
+ghost use Rattle.om_base.specs.Limits.{most_bytes};
 ghost use Rattle.om_elf.specs.declared.elf.Elf.{Elf};
 ghost use Rattle.om_mem.specs.Contents.{overlap_of};
 ghost use Rattle.om_record.specs.Recording.{ending_of, entries_of, made, moment_at, recording, start_of};
@@ -24,5 +25,5 @@ pub fn never_departs()
     ensures apart { (elf : Elf) (input : List ℕ) (limit : ℕ) (recorded : Recorded) → recording elf input limit ≡ made recorded
         → overlap_of (regions_of elf.segments (start_of elf.segments)) ≡ None }
     ensures size { (elf : Elf) (input : List ℕ) (limit : ℕ) (recorded : Recorded) → recording elf input limit ≡ made recorded
-        → length recorded.bytes ≤ 67_108_864 }
+        → length recorded.bytes ≤ most_bytes }
 {}

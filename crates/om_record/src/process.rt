@@ -4,15 +4,16 @@ ghost use Rattle.std.specs.Prelude.{◌≡◌, ◌+◌, ◌-◌, ◌^◌, ◌<�
 ghost use Rattle.std.specs.List.{AllByRecursion};
 ghost use Rattle.om_record.specs.Kernel.{answer_to};
 ghost use Rattle.om_record.specs.Recording.{arguments_of, served};
-ghost use Rattle.om_record.specs.Walk.{AreBefore, IsFull, IsTold, IsWalk, PausesAt, exit_by, moment, told_at};
+ghost use Rattle.om_record.specs.Walk.{AreBefore, IsFull, IsLogged, IsWalk, PausesAt, exit_argument, moment, call_entry_at};
 ghost use Rattle.om_step.specs.Step.{outcome};
 ghost use Rattle.om_step.specs.declared.outcome.Outcome.{Outcome};
 
-use crate::kernel::{CALL_NUMBER, Host, is_exit};
+use crate::kernel::Host;
 use crate::recorded::RecordFault;
 use crate::telling::push_entry;
 use om_log::{Entry, LogWriter, Start};
-use om_step::{Cause, Machine, Outcome, StepMeter};
+use om_run::is_exit;
+use om_step::{CALL_NUMBER, Cause, Machine, Outcome, StepMeter};
 
 /// A machine with the kernel at its side.
 #[derive(Drop)]
@@ -98,28 +99,28 @@ impl<'a> Process<'a> {
         ensures served { OnOk result (moment self.new.machine.state self.new.host
             ≡ served (moment self.old.machine.state self.old.host) (answer_to start self.old.host self.old.machine.state)) }
         ensures meter { OnOk result (self.new.meter ≡ self.old.meter + 1) }
-        ensures exit { IfOk result (λ exit. exit ≡ exit_by self.old.machine.state) }
+        ensures exit { IfOk result (λ exit. exit ≡ exit_argument self.old.machine.state) }
 
         // What the log tells.
-        ensures told { OnOk result (IsTold writer.old
-            (told_at start self.old.meter (moment self.old.machine.state self.old.host) ∷ []) writer.new) }
+        ensures logged { OnOk result (IsLogged writer.old
+            (call_entry_at start self.old.meter (moment self.old.machine.state self.old.host) ∷ []) writer.new) }
         ensures stand { OnOk result (AreBefore self.old.meter (self.old.meter + 1)
-            (told_at start self.old.meter (moment self.old.machine.state self.old.host) ∷ [])) }
+            (call_entry_at start self.old.meter (moment self.old.machine.state self.old.host) ∷ [])) }
         ensures fault { IfErr result (IsFull writer.old
-            (told_at start self.old.meter (moment self.old.machine.state self.old.host) ∷ []) self.old.meter) }
+            (call_entry_at start self.old.meter (moment self.old.machine.state self.old.host) ∷ []) self.old.meter) }
     {
         let step = self.meter.value();
         let number = self.machine.reg(CALL_NUMBER);
         let args = arguments(&self.machine);
         let reply = self.host.answer(start, &self.machine);
-        let told = Entry::Call {
+        let call = Entry::Call {
             step,
             number,
             args,
             result: reply.value,
             writes: reply.writes.again(),
         };
-        push_entry(writer, step, &told)?;
+        push_entry(writer, step, &call)?;
         let _ = self
             .machine
             .answer_call(reply.value, reply.writes, &mut self.meter);

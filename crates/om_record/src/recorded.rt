@@ -22,7 +22,7 @@ pub enum RecordFault {
     NoMemory,
     /// The log would have more than 67,108,864 bytes.
     TooLong {
-        /// The first step whose entries are too many.
+        /// The first step with whose entries, and an END behind them, it would have more.
         step: u64,
     },
     /// The regions at these places of the run's list share an address, the least such pair; or both are

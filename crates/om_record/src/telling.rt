@@ -4,20 +4,18 @@ ghost use Rattle.std.specs.Prelude.{◌≡◌, ◌∷◌, [], ◌++◌, ◌<◌,
 ghost use Rattle.om_log.specs.Grammar.{spelling};
 ghost use Rattle.om_log.specs.Writing.{HasShortWrites, file_of};
 ghost use Rattle.om_record.specs.Recording.{end_entry, mark_of};
-ghost use Rattle.om_record.specs.Walk.{AreBefore, HasRoomForEnd, IsFull, IsTold, known_ending};
+ghost use Rattle.om_record.specs.Walk.{AreBefore, HasRoomForEnd, IsFull, IsLogged, known_ending};
 ghost use Rattle.om_step.specs.Step.{code_of};
 ghost use Rattle.om_record.specs.declared.recorded.RecordFault.TheVariants.{NoMemory};
 
 use crate::recorded::{RecordFault, Recorded};
+use om_base::MOST_BYTES;
 use om_log::{Entry, LogWriter};
-use om_run::Ending;
+use om_run::RunEnd;
 use om_step::{Cause, Machine};
 
-/// The most bytes that a log may have.
-const MOST_BYTES: usize = 67_108_864;
-
 /// The bytes of an END.
-const END_BYTES: usize = 14;
+const END_BYTES: u64 = 14;
 
 /// A mark stands at each step above 0 and below the limit that is a multiple of this.
 const MARK_EVERY: u64 = 65_536;
@@ -39,11 +37,11 @@ pub(crate) fn push_entry(
     entry: &Entry<'_>,
 ) -> Result<(), RecordFault>
     requires { HasShortWrites entry.now }
-    ensures told { OnOk result (IsTold writer.old (entry.now ∷ []) writer.new) }
+    ensures logged { OnOk result (IsLogged writer.old (entry.now ∷ []) writer.new) }
     ensures fault { IfErr result (IsFull writer.old (entry.now ∷ []) step) }
 {
     writer.push(entry)?;
-    if writer.len() > MOST_BYTES - END_BYTES {
+    if writer.len() as u64 > MOST_BYTES - END_BYTES {
         return Err(RecordFault::TooLong { step });
     }
     Ok(())
@@ -67,7 +65,7 @@ pub(crate) fn push_mark(
     machine: &Machine,
 ) -> Result<(), RecordFault>
     requires { HasRoomForEnd writer.old }
-    ensures told { OnOk result (IsTold writer.old (mark_of limit step machine.now.state) writer.new) }
+    ensures logged { OnOk result (IsLogged writer.old (mark_of limit step machine.now.state) writer.new) }
     ensures stand { OnOk result (AreBefore step step (mark_of limit step machine.now.state)) }
     ensures fault { IfErr result (IsFull writer.old (mark_of limit step machine.now.state) step) }
 {
@@ -94,19 +92,19 @@ pub(crate) fn next_mark(step: u64, limit: u64) -> u64
 
 /// The end of a run at a step, whatever the machine does there: behind a call that exits, of which this is the
 /// first argument, or at the limit.
-pub(crate) fn known_end(exit: Option<u32>, step: u64, limit: u64) -> Option<Ending>
+pub(crate) fn known_end(exit: Option<u32>, step: u64, limit: u64) -> Option<RunEnd>
     ensures end { result ≡ known_ending exit step limit }
     ensures fits { IfSome result (λ end. end.value < 2 ^ 32) }
 {
     if let Some(value) = exit {
-        return Some(Ending {
+        return Some(RunEnd {
             step,
             cause: EXIT,
             value,
         });
     }
     if step >= limit {
-        return Some(Ending {
+        return Some(RunEnd {
             step,
             cause: CUT,
             value: 0,
@@ -116,10 +114,10 @@ pub(crate) fn known_end(exit: Option<u32>, step: u64, limit: u64) -> Option<Endi
 }
 
 /// The end at a step at which the machine stops.
-pub(crate) fn end_by_stop(step: u64, cause: Cause) -> Ending
+pub(crate) fn end_by_stop(step: u64, cause: Cause) -> RunEnd
     ensures { result ≡ record { step = step; cause = 2; value = code_of cause } }
 {
-    Ending {
+    RunEnd {
         step,
         cause: STOP,
         value: cause.code(),
@@ -130,7 +128,7 @@ pub(crate) fn end_by_stop(step: u64, cause: Cause) -> Ending
 ///
 /// Errors: `NoMemory`.
 #[tactic(auto, using(crate::proofs::TellingLemmas::some_end))]
-pub(crate) fn finish(writer: LogWriter, end: Ending) -> Result<Recorded, RecordFault>
+pub(crate) fn finish(writer: LogWriter, end: RunEnd) -> Result<Recorded, RecordFault>
     ensures recorded { IfOk result (λ recorded. recorded ≡ record {
       bytes = file_of writer ++ spelling (end_entry end);
       steps = end.step;

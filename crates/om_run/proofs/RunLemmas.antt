@@ -1,7 +1,9 @@
 -- The first departure of a run, step by step, and what it depends on.
-use Rattle.std.proofs.Common.{◌≡◌, ℕ, zero, suc, ◌+◌, ◌<◌, ◌≤◌, Bool, true, false, nat_eq, nat_lt, if◌then◌else◌, List, [], ◌∷◌, ◌++◌, Option, Some, None, Result, Ok, Err, refl, sym, ap, ◌∙◌, arith}
+use Rattle.std.proofs.Common.{◌≡◌, ℕ, zero, suc, ◌+◌, ◌<◌, ◌≤◌, Bool, true, false, nat_eq, nat_lt, if◌then◌else◌, List, [], ◌∷◌, ◌++◌, map, Option, Some, None, Result, Ok, Err, refl, sym, ap, ◌∙◌, arith}
 use Rattle.std.proofs.lemmas.Bool.{ltb-true, ne_eqb}
 use Rattle.std.specs.Option.{option_map, option_or}
+use Rattle.std.proofs.lemmas.List.{map-append}
+use Rattle.om_base.specs.Firsts.{first_of}
 use Rattle.om_log.specs.Grammar.{step_of}
 use Rattle.om_log.specs.declared.entry.Entry.{Entry}
 use Rattle.om_log.specs.declared.entry.Entry.TheVariants.{Call, Mark, End}
@@ -14,8 +16,8 @@ use Rattle.om_run.specs.declared.departure.Departure.{Departure}
 use Rattle.om_run.specs.declared.departure.Halt.{Halt}
 use Rattle.om_run.specs.declared.departure.Halt.TheVariants.{Ended}
 use Rattle.om_step.specs.declared.outcome.Touched.{Touched}
-use Rattle.om_run.specs.declared.told.Told.{Told}
-use Rattle.om_run.specs.declared.told.Ending.{Ending}
+use Rattle.om_run.specs.declared.logged.LoggedCall.{LoggedCall}
+use Rattle.om_run.specs.declared.logged.RunEnd.{RunEnd}
 use Rattle.om_step.specs.declared.outcome.Outcome.{Outcome}
 use Rattle.om_step.specs.declared.outcome.Outcome.TheVariants.{Next, Call as StandsAtCall, Stop}
 use Rattle.om_run.proofs.WalkLemmas.{err, goes_before, departs_before}
@@ -30,13 +32,17 @@ or_none : {T : Type 0} (a : Option T) → option_or a None ≡ a
 or_none None = refl
 or_none (Some a) = refl
 
+-- the first of some things that may not be there and of some after them
+pub first_of_append : {A : Type 0} (xs ys : List (Option A)) → first_of (xs ++ ys) ≡ option_or (first_of xs) (first_of ys)
+first_of_append [] ys = refl
+first_of_append (x ∷ xs) ys = ap (option_or x) (first_of_append xs ys) ∙ or_assoc x (first_of xs) (first_of ys)
+
 -- the first departure of some steps and of some after them
 pub first_departure_append : (entries : List Entry) (first : State) (xs ys : List ℕ)
     → first_departure entries first (xs ++ ys) ≡ option_or (first_departure entries first xs) (first_departure entries first ys)
-first_departure_append entries first [] ys = refl
-first_departure_append entries first (x ∷ xs) ys =
-    ap (option_or (departs_at entries x (state_at entries first x))) (first_departure_append entries first xs ys)
-    ∙ or_assoc (departs_at entries x (state_at entries first x)) (first_departure entries first xs) (first_departure entries first ys)
+first_departure_append entries first xs ys =
+    let departs : ℕ → Option Departure = λ i. departs_at entries i (state_at entries first i) in
+    rw (map-append departs xs ys) (first_of_append (map departs xs) (map departs ys))
 
 -- the first departure up to a step
 pub first_departure_next : (entries : List Entry) (first : State) (i : ℕ)
@@ -62,7 +68,7 @@ none_after i (End step cause value ∷ entries) later j h = none_after i entries
 pub due_kept : (i : ℕ) (kept later : List Entry) → AreAfter i later → (j : ℕ) → j ≤ i → due (kept ++ later) j ≡ due kept j
 due_kept i [] later after j h = none_after i later after j h
 due_kept i (Call step number args result writes ∷ kept) later after j h =
-    ap (λ (rest : Option Told). if nat_eq step j then Some (record { number = number; arguments = args; result = result; writes = writes }) else rest) (due_kept i kept later after j h)
+    ap (λ (rest : Option LoggedCall). if nat_eq step j then Some (record { number = number; arguments = args; result = result; writes = writes }) else rest) (due_kept i kept later after j h)
 due_kept i (Mark step pc sum ∷ kept) later after j h = due_kept i kept later after j h
 due_kept i (End step cause value ∷ kept) later after j h = due_kept i kept later after j h
 
@@ -95,14 +101,14 @@ unfolding state_at
 states_same i kept a b first later_a later_b zero h = refl
 states_same i kept a b first later_a later_b (suc j) h =
     ap (after_step (kept ++ a) j) (states_same i kept a b first later_a later_b j (omega arith))
-    ∙ ap (λ (call : Option Told). after_by (outcome (state_at (kept ++ b) first j)) call (state_at (kept ++ b) first j)) (due_same i kept a b later_a later_b j (omega arith))
+    ∙ ap (λ (call : Option LoggedCall). after_by (outcome (state_at (kept ++ b) first j)) call (state_at (kept ++ b) first j)) (due_same i kept a b later_a later_b j (omega arith))
 
 map_or : {A B : Type 0} (f : A → B) (a b : Option A) → option_map f (option_or a b) ≡ option_or (option_map f a) (option_map f b)
 map_or f None b = refl
 map_or f (Some a) b = refl
 
 -- two ends differ in nothing but the last step that an early stop tells
-same_by : (e f : Ending) (happens : Outcome) (call : Option Told) (i : ℕ) (s : State)
+same_by : (e f : RunEnd) (happens : Outcome) (call : Option LoggedCall) (i : ℕ) (s : State)
     → option_map without_last (departs_by e happens call i s) ≡ option_map without_last (departs_by f happens call i s)
 same_by e f (Next touched) call i s = refl
 same_by e f StandsAtCall call i s = refl
@@ -125,7 +131,7 @@ departs_same i kept a b first later_a later_b end_a end_b j h =
     ap (λ (x : State). option_map without_last (departs_at (kept ++ a) j x)) (states_same i kept a b first later_a later_b j (omega arith))
     ∙ unended (kept ++ a) j s (omega arith)
     ∙ ap (λ (marks : List Marked). option_or (option_map without_last (departs_at_marks marks j s)) (option_map without_last (departs_by (end_of (kept ++ a)) (outcome s) (due (kept ++ a) j) j s))) (marks_same i kept a b later_a later_b j h)
-    ∙ ap (λ (call : Option Told). option_or (option_map without_last (departs_at_marks (marks_of (kept ++ b) j) j s)) (option_map without_last (departs_by (end_of (kept ++ a)) (outcome s) call j s))) (due_same i kept a b later_a later_b j h)
+    ∙ ap (λ (call : Option LoggedCall). option_or (option_map without_last (departs_at_marks (marks_of (kept ++ b) j) j s)) (option_map without_last (departs_by (end_of (kept ++ a)) (outcome s) call j s))) (due_same i kept a b later_a later_b j h)
     ∙ ap (option_or (option_map without_last (departs_at_marks (marks_of (kept ++ b) j) j s))) (same_by (end_of (kept ++ a)) (end_of (kept ++ b)) (outcome s) (due (kept ++ b) j) j s)
     ∙ sym (unended (kept ++ b) j s (omega arith))
 

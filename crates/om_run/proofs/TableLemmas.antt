@@ -3,19 +3,20 @@ use Rattle.std.proofs.Common.{◌≡◌, ℕ, ◌≤◌, Bool, true, false, not,
 use Rattle.std.proofs.lemmas.Bool.{eq-eqb, ltb-true, ltb-false, ne_eqb}
 use Rattle.std.specs.List.{flat_map}
 use Rattle.std.specs.Option.{option_and_then, option_or}
+use Rattle.om_base.specs.Firsts.{first_of}
 use Rattle.om_log.specs.declared.entry.Entry.{Entry}
 use Rattle.om_step.specs.State.{State, register, sum_of}
 use Rattle.om_step.specs.Step.{outcome, outside_of}
 use Rattle.om_step.specs.declared.outcome.Outcome.{Outcome}
 use Rattle.om_step.specs.declared.outcome.Outcome.TheVariants.{Next, Call as StandsAtCall, Stop}
-use Rattle.om_run.specs.Departure.{broken, call_before, departs_at, departs_at_end, departs_at_marks, departs_by, departs_for, departs_for_argument, departs_for_mark, departs_unmarked, first_of, stop_code, stops_with}
+use Rattle.om_run.specs.Departure.{broken, call_before, departs_at, departs_at_end, departs_at_marks, departs_by, departs_for, departs_for_argument, departs_for_mark, departs_unmarked, stop_code, stops_with}
 use Rattle.om_run.specs.Run.{Marked, due, end_of, marks_of}
-use Rattle.om_run.specs.Table.{Rule, Judged, argument_rule, exits, first_broken, judged_at, mark_rules, outside_rule, rules_at, rules_beside_marks, stopped_rule}
+use Rattle.om_run.specs.Table.{Rule, Judged, argument_rule, first_broken, is_exit_call, judged_at, mark_rules, outside_rule, rules_at, rules_beside_marks, stopped_rule}
 use Rattle.om_run.specs.declared.departure.Departure.{Departure}
 use Rattle.om_run.specs.declared.departure.Reason.{Reason}
 use Rattle.om_run.specs.declared.departure.Reason.TheVariants.{MarkPc, MarkSum, EndExit, EndValue, EndStop, Number, Argument, Outside}
-use Rattle.om_run.specs.declared.told.Ending.{Ending}
-use Rattle.om_run.specs.declared.told.Told.{Told}
+use Rattle.om_run.specs.declared.logged.RunEnd.{RunEnd}
+use Rattle.om_run.specs.declared.logged.LoggedCall.{LoggedCall}
 
 -- ---- some rules after others
 
@@ -72,25 +73,25 @@ end_by i true false same stop stops value number first code = refl
 end_by i false goes same stop stops value number first code = by_guard i EndStop (stop && not stops) value code refl
 
 -- what is judged at the last step, and what before it
-abbrev at_last : Ending → Option Told → Outcome → Option Told → State → Judged
+abbrev at_last : RunEnd → Option LoggedCall → Outcome → Option LoggedCall → State → Judged
 at_last end before_end happens call s =
     record { is_last = true; is_before = false; end = end; before_end = before_end; happens = happens; call = call; state = s }
 
-abbrev at_before : Ending → Option Told → Outcome → Option Told → State → Judged
+abbrev at_before : RunEnd → Option LoggedCall → Outcome → Option LoggedCall → State → Judged
 at_before end before_end happens call s =
     record { is_last = false; is_before = true; end = end; before_end = before_end; happens = happens; call = call; state = s }
 
-last_in_order : (i : ℕ) (end : Ending) (before_end : Option Told) (happens : Outcome) (call : Option Told) (s : State)
+last_in_order : (i : ℕ) (end : RunEnd) (before_end : Option LoggedCall) (happens : Outcome) (call : Option LoggedCall) (s : State)
     → first_broken i (rules_beside_marks (at_last end before_end happens call s)) ≡ departs_at_end end before_end happens i
 last_in_order i end None happens call s =
     end_by i (nat_eq end.cause 0) false (nat_eq 0 end.value) (nat_eq end.cause 2) (stops_with end.value happens) end.value 0 0 (stop_code happens)
 last_in_order i end (Some before) happens call s =
-    end_by i (nat_eq end.cause 0) (exits (Some before)) (nat_eq (slice_index before.arguments 0) end.value) (nat_eq end.cause 2) (stops_with end.value happens)
+    end_by i (nat_eq end.cause 0) (is_exit_call (Some before)) (nat_eq (slice_index before.arguments 0) end.value) (nat_eq end.cause 2) (stops_with end.value happens)
     end.value before.number (slice_index before.arguments 0) (stop_code happens)
 
 -- ---- a step before the last one
 
-argument_by : {rest others : Option Departure} (i : ℕ) (call : Told) (s : State) (j : ℕ) (number : ℕ) → rest ≡ others
+argument_by : {rest others : Option Departure} (i : ℕ) (call : LoggedCall) (s : State) (j : ℕ) (number : ℕ) → rest ≡ others
     → (if not (nat_eq (slice_index call.arguments j) number) then Some (record { step = i; reason = Argument j; told = slice_index call.arguments j; found = number }) else rest)
     ≡ option_or (departs_for i (Argument j) (if nat_eq (slice_index call.arguments j) number then None else broken (slice_index call.arguments j) number)) others
 argument_by i call s j number e = by_same i (Argument j) (nat_eq (slice_index call.arguments j) number) (slice_index call.arguments j) number e
@@ -101,7 +102,7 @@ outside_by : (i pc : ℕ) (address : Option ℕ)
 outside_by i pc None = refl
 outside_by i pc (Some a) = refl
 
-arguments_in_order : (i : ℕ) (end : Ending) (before_end : Option Told) (call : Told) (s : State)
+arguments_in_order : (i : ℕ) (end : RunEnd) (before_end : Option LoggedCall) (call : LoggedCall) (s : State)
     → let at = at_before end before_end StandsAtCall (Some call) s in
     first_broken i (argument_rule at 0 ∷ argument_rule at 1 ∷ argument_rule at 2 ∷ argument_rule at 3 ∷ argument_rule at 4 ∷ argument_rule at 5 ∷ [])
     ≡ first_of (map (departs_for_argument call i s) (0 ∷ 1 ∷ 2 ∷ 3 ∷ 4 ∷ 5 ∷ []))
@@ -109,7 +110,7 @@ arguments_in_order i end before_end call s =
     argument_by i call s 0 (register s 10) (argument_by i call s 1 (register s 11) (argument_by i call s 2 (register s 12)
     (argument_by i call s 3 (register s 13) (argument_by i call s 4 (register s 14) (argument_by i call s 5 (register s 15) refl)))))
 
-call_in_order : (i : ℕ) (end : Ending) (before_end : Option Told) (call : Told) (s : State)
+call_in_order : (i : ℕ) (end : RunEnd) (before_end : Option LoggedCall) (call : LoggedCall) (s : State)
     → first_broken i (rules_beside_marks (at_before end before_end StandsAtCall (Some call) s)) ≡ departs_by end StandsAtCall (Some call) i s
 call_in_order i end before_end call s =
     let at : Judged = at_before end before_end StandsAtCall (Some call) s in
@@ -120,7 +121,7 @@ call_in_order i end before_end call s =
     ∙ ap (λ (d : Option Departure). option_or d (first_broken i others)) (arguments_in_order i end before_end call s)
     ∙ ap (option_or (first_of (map (departs_for_argument call i s) (0 ∷ 1 ∷ 2 ∷ 3 ∷ 4 ∷ 5 ∷ [])))) (outside_by i s.pc (outside_of s.memory.regions call.writes)))
 
-before_in_order : (i : ℕ) (end : Ending) (before_end : Option Told) (happens : Outcome) (call : Option Told) (s : State)
+before_in_order : (i : ℕ) (end : RunEnd) (before_end : Option LoggedCall) (happens : Outcome) (call : Option LoggedCall) (s : State)
     → first_broken i (rules_beside_marks (at_before end before_end happens call s)) ≡ departs_by end happens call i s
 before_in_order i end before_end (Next touched) None s = refl
 before_in_order i end before_end (Next touched) (Some call) s = refl
@@ -131,7 +132,7 @@ before_in_order i end before_end (Stop cause) (Some call) s = refl
 
 -- ---- all rules
 
-unmarked_by : (last before : Bool) (i : ℕ) (end : Ending) (before_end : Option Told) (happens : Outcome) (call : Option Told) (s : State) → before ≡ not last
+unmarked_by : (last before : Bool) (i : ℕ) (end : RunEnd) (before_end : Option LoggedCall) (happens : Outcome) (call : Option LoggedCall) (s : State) → before ≡ not last
     → first_broken i (rules_beside_marks (record { is_last = last; is_before = before; end = end; before_end = before_end; happens = happens; call = call; state = s }))
     ≡ (if before then departs_by end happens call i s else departs_at_end end before_end happens i)
 unmarked_by true true i end before_end happens call s other = cc

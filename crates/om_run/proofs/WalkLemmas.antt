@@ -22,8 +22,8 @@ use Rattle.om_run.specs.Walk.{IsPlaced, end_halt, end_of_quiet, from_step, marks
 use Rattle.om_run.specs.declared.departure.Departure.{Departure}
 use Rattle.om_run.specs.declared.departure.Halt.{Halt}
 use Rattle.om_run.specs.declared.departure.Halt.TheVariants.{Departs}
-use Rattle.om_run.specs.declared.told.Ending.{Ending}
-use Rattle.om_run.specs.declared.told.Told.{Told}
+use Rattle.om_run.specs.declared.logged.RunEnd.{RunEnd}
+use Rattle.om_run.specs.declared.logged.LoggedCall.{LoggedCall}
 
 -- ---- the order of entries
 
@@ -232,16 +232,16 @@ quiet_within (entry ∷ entries) last i h = omega arith
 -- ---- the place
 
 -- the rest of the entries may stand at a replay's step
-pub lawful_rest : (place : Place) (machine : Standing) (rest : List Entry) (end : Ending) → IsPlaced place machine rest end → AreLawful place.step rest
+pub lawful_rest : (place : Place) (machine : Standing) (rest : List Entry) (end : RunEnd) → IsPlaced place machine rest end → AreLawful place.step rest
 lawful_rest place machine rest end placed =
     subst (AreLawful place.step) (sym placed.left) (lawful_from place.step 0 place.entries placed.whole (omega arith))
 
 -- the rest of the entries tells the call of a replay's step, and its marks
-pub due_rest : (place : Place) (machine : Standing) (rest : List Entry) (end : Ending) → IsPlaced place machine rest end → due place.entries place.step ≡ due rest place.step
+pub due_rest : (place : Place) (machine : Standing) (rest : List Entry) (end : RunEnd) → IsPlaced place machine rest end → due place.entries place.step ≡ due rest place.step
 due_rest place machine rest end placed =
     due_from place.step place.entries place.step (omega arith) ∙ ap (λ es. due es place.step) (sym placed.left)
 
-marks_rest : (place : Place) (machine : Standing) (rest : List Entry) (end : Ending) → IsPlaced place machine rest end → marks_of place.entries place.step ≡ marks_of rest place.step
+marks_rest : (place : Place) (machine : Standing) (rest : List Entry) (end : RunEnd) → IsPlaced place machine rest end → marks_of place.entries place.step ≡ marks_of rest place.step
 marks_rest place machine rest end placed =
     marks_from place.step place.entries place.step (omega arith) ∙ ap (λ es. marks_of es place.step) (sym placed.left)
 
@@ -271,7 +271,7 @@ unfolding contents_of
 clean_first elf start page h = get_or-replicate (page_count (regions_of elf.segments start)) page false true h
 
 -- after a step that was made it is in its place again
-pub placed_next : (place : Place) (machine after : Standing) (rest : List Entry) (end : Ending)
+pub placed_next : (place : Place) (machine after : Standing) (rest : List Entry) (end : RunEnd)
     → IsPlaced place machine rest end → place.step < end.step → after.state ≡ after_by (outcome machine.state) (due rest place.step) machine.state
     → IsKept (held_of machine) (held_of after) → IsPlaced (record place { step = place.step + 1 }) after (from_step (place.step + 1) rest) end
 placed_next place machine after rest end placed before made kept =
@@ -288,7 +288,7 @@ placed_next place machine after rest end placed before made kept =
     }
 
 -- after a jump it is in its place again
-pub placed_jump : (place : Place) (machine after : Standing) (rest : List Entry) (end : Ending) (step : ℕ)
+pub placed_jump : (place : Place) (machine after : Standing) (rest : List Entry) (end : RunEnd) (step : ℕ)
     → IsPlaced place machine rest end → step ≤ end.step → after.state ≡ state_at place.entries place.first step → IsClean after
     → IsPlaced (placed_at place step) after (from_step step place.entries) end
 placed_jump place machine after rest end step placed within same clean = record {
@@ -334,7 +334,7 @@ goes_late place None h = let late : nat_lt place.step (end_of place.entries).ste
 goes_late place (Some found) h = refl
 
 -- what the marks of a replay's step depart by
-marks_here : (place : Place) (machine : Standing) (rest : List Entry) (end : Ending) (found : Option Departure) → IsPlaced place machine rest end
+marks_here : (place : Place) (machine : Standing) (rest : List Entry) (end : RunEnd) (found : Option Departure) → IsPlaced place machine rest end
     → found ≡ departs_at_marks (marks_of rest place.step) place.step machine.state
     → departs_at_marks (marks_of place.entries place.step) place.step (here place) ≡ found
 marks_here place machine rest end found placed is =
@@ -343,7 +343,7 @@ marks_here place machine rest end found placed is =
     ∙ sym is
 
 -- before the last step, where no mark departs
-verdict_before : (place : Place) (machine : Standing) (rest : List Entry) (end : Ending) → IsPlaced place machine rest end → place.step < end.step
+verdict_before : (place : Place) (machine : Standing) (rest : List Entry) (end : RunEnd) → IsPlaced place machine rest end → place.step < end.step
     → None ≡ departs_at_marks (marks_of rest place.step) place.step machine.state
     → verdict_at place ≡ step_verdict (departs_by end (outcome machine.state) (due rest place.step) place.step machine.state) (outcome machine.state) (due rest place.step)
 unfolding verdict_at
@@ -352,12 +352,12 @@ verdict_before place machine rest end placed before unmarked =
     ap (goes_on place) (departs_before place.entries place.step (here place) h)
     ∙ ap (λ d. goes_on place (option_or d (departs_by (end_of place.entries) (outcome (here place)) (due place.entries place.step) place.step (here place)))) (marks_here place machine rest end None placed unmarked)
     ∙ goes_before place (departs_by (end_of place.entries) (outcome (here place)) (due place.entries place.step) place.step (here place)) h
-    ∙ ap (λ (call : Option Told). step_verdict (departs_by (end_of place.entries) (outcome (here place)) call place.step (here place)) (outcome (here place)) call) (due_rest place machine rest end placed)
-    ∙ ap (λ (e : Ending). step_verdict (departs_by e (outcome (here place)) (due rest place.step) place.step (here place)) (outcome (here place)) (due rest place.step)) (sym placed.ending)
+    ∙ ap (λ (call : Option LoggedCall). step_verdict (departs_by (end_of place.entries) (outcome (here place)) call place.step (here place)) (outcome (here place)) call) (due_rest place machine rest end placed)
+    ∙ ap (λ (e : RunEnd). step_verdict (departs_by e (outcome (here place)) (due rest place.step) place.step (here place)) (outcome (here place)) (due rest place.step)) (sym placed.ending)
     ∙ ap (λ (s : State). step_verdict (departs_by end (outcome s) (due rest place.step) place.step s) (outcome s) (due rest place.step)) (sym placed.state)
 
 -- at the last step, where no mark departs
-verdict_late : (place : Place) (machine : Standing) (rest : List Entry) (end : Ending) → IsPlaced place machine rest end → end.step ≤ place.step
+verdict_late : (place : Place) (machine : Standing) (rest : List Entry) (end : RunEnd) → IsPlaced place machine rest end → end.step ≤ place.step
     → None ≡ departs_at_marks (marks_of rest place.step) place.step machine.state
     → verdict_at place ≡ Err (end_halt (departs_at_end end (call_before place.entries end.step) (outcome machine.state) place.step))
 unfolding verdict_at
@@ -366,7 +366,7 @@ verdict_late place machine rest end placed late unmarked =
     ap (goes_on place) (departs_late place.entries place.step (here place) h)
     ∙ ap (λ d. goes_on place (option_or d (departs_at_end (end_of place.entries) (call_before place.entries (end_of place.entries).step) (outcome (here place)) place.step))) (marks_here place machine rest end None placed unmarked)
     ∙ goes_late place (departs_at_end (end_of place.entries) (call_before place.entries (end_of place.entries).step) (outcome (here place)) place.step) h
-    ∙ ap (λ (e : Ending). err (end_halt (departs_at_end e (call_before place.entries e.step) (outcome (here place)) place.step))) (sym placed.ending)
+    ∙ ap (λ (e : RunEnd). err (end_halt (departs_at_end e (call_before place.entries e.step) (outcome (here place)) place.step))) (sym placed.ending)
     ∙ ap (λ (s : State). err (end_halt (departs_at_end end (call_before place.entries end.step) (outcome s) place.step))) (sym placed.state)
 
 if_late : (before : Bool) (step last : ℕ) (halt found : Halt) → nat_lt step last ≡ before → (if before then None else Some found) ≡ Some halt → (last ≤ step) × (found ≡ halt)
@@ -378,7 +378,7 @@ if_before true step last found e is = ltb-true step last e
 if_before false step last found e is = cc
 
 -- where its marks or its end tell it to go no further
-halted_by : (place : Place) (machine : Standing) (rest : List Entry) (end : Ending) (marks : Option Departure) (halt : Halt) → IsPlaced place machine rest end
+halted_by : (place : Place) (machine : Standing) (rest : List Entry) (end : RunEnd) (marks : Option Departure) (halt : Halt) → IsPlaced place machine rest end
     → marks ≡ departs_at_marks (marks_of rest place.step) place.step machine.state
     → marks_or_end marks (departs_at_end end (call_before place.entries end.step) (outcome machine.state) place.step) end.step place.step ≡ Some halt
     → verdict_at place ≡ Err halt
@@ -391,7 +391,7 @@ halted_by place machine rest end None halt placed same is =
     let late = if_late (nat_lt place.step end.step) place.step end.step halt (end_halt (departs_at_end end (call_before place.entries end.step) (outcome machine.state) place.step)) refl is in
     verdict_late place machine rest end placed late.0 same ∙ ap err late.1
 
-pub verdict_halted : (place : Place) (machine : Standing) (rest : List Entry) (end : Ending) (halt : Halt) → IsPlaced place machine rest end
+pub verdict_halted : (place : Place) (machine : Standing) (rest : List Entry) (end : RunEnd) (halt : Halt) → IsPlaced place machine rest end
     → Some halt ≡ marks_or_end (departs_at_marks (marks_of rest place.step) place.step machine.state) (departs_at_end end (call_before place.entries end.step) (outcome machine.state) place.step) end.step place.step
     → verdict_at place ≡ Err halt
 verdict_halted place machine rest end halt placed is =
@@ -404,20 +404,20 @@ goes_unhalted None at_end last step is = (refl, if_before (nat_lt step last) ste
 
 -- ---- what the code's steps are
 
-pub told_verdict : (place : Place) (machine : Standing) (rest : List Entry) (end : Ending) (call : Option Told) (result : Result Touched Halt)
+pub told_verdict : (place : Place) (machine : Standing) (rest : List Entry) (end : RunEnd) (call : Option LoggedCall) (result : Result Touched Halt)
     → IsPlaced place machine rest end → place.step < end.step → None ≡ departs_at_marks (marks_of rest place.step) place.step machine.state → call ≡ due rest place.step
     → result ≡ step_verdict (departs_by end (outcome machine.state) call place.step machine.state) (outcome machine.state) call → result ≡ verdict_at place
 told_verdict place machine rest end call result placed before unmarked same is =
-    is ∙ ap (λ (c : Option Told). step_verdict (departs_by end (outcome machine.state) c place.step machine.state) (outcome machine.state) c) same ∙ sym (verdict_before place machine rest end placed before unmarked)
+    is ∙ ap (λ (c : Option LoggedCall). step_verdict (departs_by end (outcome machine.state) c place.step machine.state) (outcome machine.state) c) same ∙ sym (verdict_before place machine rest end placed before unmarked)
 
-pub made_next : (machine after : State) (call : Option Told) (rest : List Entry) (i : ℕ) (result : Result Touched Halt) (touched : Touched)
+pub made_next : (machine after : State) (call : Option LoggedCall) (rest : List Entry) (i : ℕ) (result : Result Touched Halt) (touched : Touched)
     → after ≡ step_leaves result (outcome machine) call machine → result ≡ Ok touched → call ≡ due rest i
     → after ≡ after_by (outcome machine) (due rest i) machine
 made_next machine after call rest i result touched leaves is same =
-    leaves ∙ ap (λ (r : Result Touched Halt). step_leaves r (outcome machine) call machine) is ∙ ap (λ (c : Option Told). after_by (outcome machine) c machine) same
+    leaves ∙ ap (λ (r : Result Touched Halt). step_leaves r (outcome machine) call machine) is ∙ ap (λ (c : Option LoggedCall). after_by (outcome machine) c machine) same
 
 -- in the quiet no mark departs
-pub quiet_marks : (place : Place) (machine : Standing) (rest : List Entry) (end : Ending) → IsPlaced place machine rest end → place.step < end_of_quiet rest end.step
+pub quiet_marks : (place : Place) (machine : Standing) (rest : List Entry) (end : RunEnd) → IsPlaced place machine rest end → place.step < end_of_quiet rest end.step
     → None ≡ departs_at_marks (marks_of rest place.step) place.step machine.state
 quiet_marks place machine rest end placed quiet =
     ap (λ marks. departs_at_marks marks place.step machine.state) (sym (quiet_unmarked rest end.step place.step (lawful_rest place machine rest end placed) quiet))

@@ -13,7 +13,7 @@ use Rattle.om_run.specs.Departure.{departs_at}
 use Rattle.om_run.specs.declared.departure.Departure.{Departure}
 use Rattle.om_run.specs.declared.departure.Halt.{Halt}
 use Rattle.om_run.specs.declared.departure.Halt.TheVariants.{Ended, Departs}
-use Rattle.om_run.specs.declared.told.Told.{Told}
+use Rattle.om_run.specs.declared.logged.LoggedCall.{LoggedCall}
 
 -- the log's entries, the first state of the run, the step at which the replay stands, and the one at which it last counted every page as unwritten
 pub record Place : Type 0 where
@@ -27,10 +27,10 @@ abbrev pub here : Place → State
 here place = state_at place.entries place.first place.step
 
 -- what a step touches, where the log tells this call or none
-abbrev pub touched_by_step : Outcome → Option Told → Touched
-touched_by_step (Next touched) told = touched
-touched_by_step Call told = TouchedCall (writes_of told)
-touched_by_step (Stop cause) told = Nothing
+abbrev pub touched_by_step : Outcome → Option LoggedCall → Touched
+touched_by_step (Next touched) call = touched
+touched_by_step Call call = TouchedCall (writes_of call)
+touched_by_step (Stop cause) call = Nothing
 
 -- what a move answers, by where the run departs at the step: what the step touches, or that it ended
 abbrev pub goes_on : Place → Option Departure → Result Touched Halt

@@ -5,15 +5,15 @@ use Rattle.om_log.specs.Chunk.{Chunk}
 use Rattle.om_log.specs.Grammar.{step_of}
 use Rattle.om_log.specs.declared.entry.Entry.{Entry}
 use Rattle.om_log.specs.declared.entry.Entry.TheVariants.{Call, Mark, End}
-use Rattle.om_run.specs.declared.told.Told.{Told}
-use Rattle.om_run.specs.declared.told.Ending.{Ending}
+use Rattle.om_run.specs.declared.logged.LoggedCall.{LoggedCall}
+use Rattle.om_run.specs.declared.logged.RunEnd.{RunEnd}
 use Rattle.om_step.specs.State.{State}
 use Rattle.om_step.specs.Step.{outcome, next, answered}
 use Rattle.om_step.specs.declared.outcome.Outcome.{Outcome}
 use Rattle.om_step.specs.declared.outcome.Outcome.TheVariants.{Next, Call as StandsAtCall, Stop}
 
 -- the call that a log tells for a step, if it tells one
-abbrev pub due : List Entry → ℕ → Option Told
+abbrev pub due : List Entry → ℕ → Option LoggedCall
 due [] i = None
 due (Call step number args result writes ∷ entries) i =
     if nat_eq step i then Some (record { number = number; arguments = args; result = result; writes = writes }) else due entries i
@@ -34,25 +34,25 @@ marks_of (Call step number args result writes ∷ entries) i = marks_of entries 
 marks_of (End step cause value ∷ entries) i = marks_of entries i
 
 -- the end that a log tells; a log that keeps the format's rules tells one
-abbrev pub end_of : List Entry → Ending
+abbrev pub end_of : List Entry → RunEnd
 end_of [] = record { step = 0; cause = 1; value = 0 }
 end_of (End step cause value ∷ entries) = record { step = step; cause = cause; value = value }
 end_of (Call step number args result writes ∷ entries) = end_of entries
 end_of (Mark step pc sum ∷ entries) = end_of entries
 
 -- the result of a call, or 0 where there is none
-abbrev pub result_of : Option Told → ℕ
-result_of call = option_map_or (λ (c : Told). c.result) call 0
+abbrev pub result_of : Option LoggedCall → ℕ
+result_of call = option_map_or (λ (c : LoggedCall). c.result) call 0
 
 -- the writes of a call, or none where there is none
-abbrev pub writes_of : Option Told → List Chunk
-writes_of call = option_map_or (λ (c : Told). c.writes) call []
+abbrev pub writes_of : Option LoggedCall → List Chunk
+writes_of call = option_map_or (λ (c : LoggedCall). c.writes) call []
 
 -- the state after a step: a call is answered with the result and the writes that the log tells
-abbrev pub after_by : Outcome → Option Told → State → State
-after_by (Next touched) told s = next s
-after_by StandsAtCall told s = answered s (result_of told) (writes_of told)
-after_by (Stop cause) told s = s
+abbrev pub after_by : Outcome → Option LoggedCall → State → State
+after_by (Next touched) call s = next s
+after_by StandsAtCall call s = answered s (result_of call) (writes_of call)
+after_by (Stop cause) call s = s
 
 abbrev pub after_step : List Entry → ℕ → State → State
 after_step entries i s = after_by (outcome s) (due entries i) s

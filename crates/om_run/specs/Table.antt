@@ -1,16 +1,15 @@
 -- The table of departures: the rules of a step in their order, each with its whole guard and its two numbers.
-use Rattle.std.specs.Prelude.{ℕ, ◌+◌, Bool, false, true, not, ◌&&◌, nat_eq, nat_lt, if◌then◌else◌, List, [], ◌∷◌, ◌++◌, slice_index, Option, Some, None, unwrap_or, is_some, is_none}
+use Rattle.std.specs.Prelude.{ℕ, ◌+◌, Bool, false, true, not, ◌&&◌, nat_eq, nat_lt, if◌then◌else◌, List, [], ◌∷◌, ◌++◌, Option, Some, None, unwrap_or, is_some, is_none}
 use Rattle.std.specs.List.{flat_map}
-use Rattle.std.specs.Option.{option_map_or}
 use Rattle.om_log.specs.declared.entry.Entry.{Entry}
 use Rattle.om_step.specs.State.{State, register, sum_of}
 use Rattle.om_step.specs.Step.{outcome, outside_of}
 use Rattle.om_step.specs.declared.outcome.Outcome.{Outcome}
 use Rattle.om_step.specs.declared.outcome.Outcome.TheVariants.{Next, Call as StandsAtCall, Stop}
-use Rattle.om_run.specs.declared.told.Told.{Told}
-use Rattle.om_run.specs.declared.told.Ending.{Ending}
+use Rattle.om_run.specs.declared.logged.LoggedCall.{LoggedCall}
+use Rattle.om_run.specs.declared.logged.RunEnd.{RunEnd}
 use Rattle.om_run.specs.Run.{Marked, due, marks_of, end_of, writes_of}
-use Rattle.om_run.specs.Departure.{argument_of, call_before, is_exit, number_of, stop_code, stops_with}
+use Rattle.om_run.specs.Departure.{argument_at, call_before, is_exit, number_of, stop_code, stops_with}
 use Rattle.om_run.specs.declared.departure.Reason.{Reason}
 use Rattle.om_run.specs.declared.departure.Reason.TheVariants.{MarkPc, MarkSum, EndExit, EndValue, EndStop, Call, Passed, Number, Argument, Outside, Stopped}
 use Rattle.om_run.specs.declared.departure.Departure.{Departure}
@@ -29,10 +28,10 @@ rule reason is_broken told found = record { reason = reason; is_broken = is_brok
 pub record Judged : Type 0 where
   pub is_last : Bool
   pub is_before : Bool
-  pub end : Ending
-  pub before_end : Option Told
+  pub end : RunEnd
+  pub before_end : Option LoggedCall
   pub happens : Outcome
-  pub call : Option Told
+  pub call : Option LoggedCall
   pub state : State
 
 -- ---- the parts of the guards
@@ -50,16 +49,12 @@ is_stop StandsAtCall = false
 is_stop (Stop cause) = true
 
 -- there is a call, and it exits
-abbrev pub exits : Option Told → Bool
-exits None = false
-exits (Some call) = is_exit call.number
-
--- an argument of a call, or 0 where there is none
-abbrev pub argument_at : Option Told → ℕ → ℕ
-argument_at call j = option_map_or (λ (c : Told). slice_index c.arguments j) call 0
+abbrev pub is_exit_call : Option LoggedCall → Bool
+is_exit_call None = false
+is_exit_call (Some call) = is_exit call.number
 
 -- the first address of a call's writes that may not be written
-abbrev pub outside_at : Option Told → State → Option ℕ
+abbrev pub outside_at : Option LoggedCall → State → Option ℕ
 outside_at call s = outside_of s.memory.regions (writes_of call)
 
 -- before the last step the machine stands at an ECALL, and the log tells a call of the step
@@ -78,13 +73,13 @@ mark_rules s mark =
 -- 3: at the last step, cause 0, and no call of the step before exits
 abbrev pub end_exit_rule : Judged → Rule
 end_exit_rule at =
-    rule EndExit (at.is_last && (nat_eq at.end.cause 0 && not (exits at.before_end))) at.end.value (number_of at.before_end)
+    rule EndExit (at.is_last && (nat_eq at.end.cause 0 && not (is_exit_call at.before_end))) at.end.value (number_of at.before_end)
 
 -- 4: at the last step, cause 0, the call of the step before exits, and its first argument isn't the value
 abbrev pub end_value_rule : Judged → Rule
 end_value_rule at =
-    rule EndValue (at.is_last && (nat_eq at.end.cause 0 && (exits at.before_end && not (nat_eq (argument_of at.before_end) at.end.value))))
-    at.end.value (argument_of at.before_end)
+    rule EndValue (at.is_last && (nat_eq at.end.cause 0 && (is_exit_call at.before_end && not (nat_eq (argument_at at.before_end 0) at.end.value))))
+    at.end.value (argument_at at.before_end 0)
 
 -- 5: at the last step, cause 2, and the machine has no stop of that code
 abbrev pub end_stop_rule : Judged → Rule

@@ -1,6 +1,7 @@
 -- What a replay keeps while it walks along its log. Nobody above needs it.
 use Rattle.std.specs.Prelude.{◌≡◌, ℕ, min, ◌≤◌, nat_lt, if◌then◌else◌, List, [], ◌∷◌, map, Option, Some, None, Result, Ok, Err}
 use Rattle.std.specs.Option.{option_or}
+use Rattle.om_base.specs.Firsts.{first_of}
 use Rattle.om_log.specs.Grammar.{AreLawful, step_of}
 use Rattle.om_log.specs.declared.entry.Entry.{Entry}
 use Rattle.om_step.specs.Back.{IsClean}
@@ -9,13 +10,13 @@ use Rattle.om_step.specs.declared.outcome.Outcome.{Outcome}
 use Rattle.om_step.specs.declared.outcome.Touched.{Touched}
 use Rattle.om_run.specs.Run.{end_of, state_at, after_by}
 use Rattle.om_run.specs.Replay.{Place, IsKeptSince, touched_by_step}
-use Rattle.om_run.specs.Departure.{departs_for, departs_for_argument, first_of, other_number}
+use Rattle.om_run.specs.Departure.{departs_for, departs_for_argument, other_number}
 use Rattle.om_run.specs.declared.departure.Reason.TheVariants.{Number}
 use Rattle.om_run.specs.declared.departure.Departure.{Departure}
 use Rattle.om_run.specs.declared.departure.Halt.{Halt}
 use Rattle.om_run.specs.declared.departure.Halt.TheVariants.{Ended, Departs}
-use Rattle.om_run.specs.declared.told.Told.{Told}
-use Rattle.om_run.specs.declared.told.Ending.{Ending}
+use Rattle.om_run.specs.declared.logged.LoggedCall.{LoggedCall}
+use Rattle.om_run.specs.declared.logged.RunEnd.{RunEnd}
 
 -- the entries from a step on: without those of earlier steps that they begin with
 abbrev pub from_step : ℕ → List Entry → List Entry
@@ -28,7 +29,7 @@ end_of_quiet [] last = last
 end_of_quiet (entry ∷ entries) last = min (step_of entry) last
 
 -- a replay's machine is in the state of its step, its unwritten pages are as they were at its last clearing, and its rest of the entries is what the log has from there on
-pub record IsPlaced (place : Place) (machine : Standing) (rest : List Entry) (end : Ending) : Type 0 where
+pub record IsPlaced (place : Place) (machine : Standing) (rest : List Entry) (end : RunEnd) : Type 0 where
   pub state : machine.state ≡ state_at place.entries place.first place.step
   pub kept : IsKeptSince place machine
   pub since : place.cleared ≤ place.step
@@ -39,19 +40,19 @@ pub record IsPlaced (place : Place) (machine : Standing) (rest : List Entry) (en
   pub within : place.step ≤ end.step
 
 -- the rules of a call that the log tells, where the machine stands at one, but for its writes
-abbrev pub departs_before_writes : Told → ℕ → State → Option Departure
+abbrev pub departs_before_writes : LoggedCall → ℕ → State → Option Departure
 departs_before_writes call i s =
     option_or (departs_for i Number (other_number call s)) (first_of (map (departs_for_argument call i s) (0 ∷ 1 ∷ 2 ∷ 3 ∷ 4 ∷ 5 ∷ [])))
 
 -- what a step before the last one answers, by where the run departs there, if it does
-abbrev pub step_verdict : Option Departure → Outcome → Option Told → Result Touched Halt
-step_verdict (Some departure) outcome told = Err (Departs departure)
-step_verdict None outcome told = Ok (touched_by_step outcome told)
+abbrev pub step_verdict : Option Departure → Outcome → Option LoggedCall → Result Touched Halt
+step_verdict (Some departure) outcome call = Err (Departs departure)
+step_verdict None outcome call = Ok (touched_by_step outcome call)
 
 -- the state that such a step leaves: another one where it was made
-abbrev pub step_leaves : Result Touched Halt → Outcome → Option Told → State → State
-step_leaves (Ok touched) outcome told s = after_by outcome told s
-step_leaves (Err halt) outcome told s = s
+abbrev pub step_leaves : Result Touched Halt → Outcome → Option LoggedCall → State → State
+step_leaves (Ok touched) outcome call s = after_by outcome call s
+step_leaves (Err halt) outcome call s = s
 
 -- why a run stops at its last step, by where its end departs from the log, if it does
 abbrev pub end_halt : Option Departure → Halt

@@ -5,34 +5,22 @@ ghost use Rattle.om_step.specs.Step.{outcome};
 ghost use Rattle.om_mem.specs.Pages.{IsKept};
 ghost use Rattle.om_step.specs.State.{held_of};
 ghost use Rattle.om_log.specs.Grammar.{AreLawful};
-ghost use Rattle.om_run.specs.Departure.{is_exit as exits, call_before, departs_at_call, departs_at_end, departs_at_marks, departs_by, departs_for, departs_for_argument, departs_for_mark, end_stop, end_value, end_exit, first_of, write_outside};
+ghost use Rattle.om_base.specs.Firsts.{first_of};
+ghost use Rattle.om_run.specs.Departure.{call_before, departs_at_call, departs_at_end, departs_at_marks, departs_by, departs_for, departs_for_argument, departs_for_mark, end_stop, end_value, end_exit, write_outside};
 ghost use Rattle.om_run.specs.Departure.{stop_code, stops_with};
 ghost use Rattle.om_run.specs.Run.{marks_of};
 ghost use Rattle.om_run.specs.Walk.{departs_before_writes, end_halt, marks_or_end, step_leaves, step_verdict};
-ghost use Rattle.om_run.specs.declared.told.Told.{Told};
-ghost use Rattle.om_run.specs.declared.told.Ending.{Ending};
+ghost use Rattle.om_run.specs.declared.logged.LoggedCall.{LoggedCall};
+ghost use Rattle.om_run.specs.declared.logged.RunEnd.{RunEnd};
 ghost use Rattle.om_step.specs.declared.outcome.Outcome.{Outcome};
 
 use crate::departure::{Departure, Halt, Reason};
-use crate::told::{Ending, Told, find_call_before};
+use crate::logged::{LoggedCall, RunEnd, find_call_before, is_exit};
 use om_log::Entry;
-use om_step::{Machine, Outcome, StepMeter, Touched};
-
-/// The number of the register a0.
-const ARGUMENT_0: u8 = 10;
-
-/// The number of the register a7, which has a call's number.
-const CALL_NUMBER: u8 = 17;
+use om_step::{ARGUMENT_0, CALL_NUMBER, Machine, Outcome, StepMeter, Touched};
 
 /// The arguments of a call, in the order in which they are judged.
 const ARGUMENTS: [u8; 6] = [0, 1, 2, 3, 4, 5];
-
-/// Whether a call of this number exits: `exit` and `exit_group` of Linux on RISC-V.
-fn is_exit(number: u32) -> bool
-    ensures { result ≡ exits number }
-{
-    number == 93 || number == 94
-}
 
 /// A rule that is broken: the number that the log has, and the one that the run has.
 fn broken(step: u64, reason: Reason, told: u32, found: u32) -> Departure
@@ -81,8 +69,8 @@ fn judge_marks(entries: &[Entry<'_>], machine: &Machine, at: u64) -> Option<Depa
 }
 
 /// Where an end by exit departs; `call` is the call of the step before.
-fn judge_exit(value: u32, call: Option<Told<'_>>, step: u64) -> Option<Departure>
-    ensures { (end : Ending) → end.cause ≡ 0 → end.value ≡ value → (happens : Outcome)
+fn judge_exit(value: u32, call: Option<LoggedCall<'_>>, step: u64) -> Option<Departure>
+    ensures { (end : RunEnd) → end.cause ≡ 0 → end.value ≡ value → (happens : Outcome)
         → result ≡ departs_at_end end call.entry happens step }
 {
     let (number, first) = match call {
@@ -100,7 +88,7 @@ fn judge_exit(value: u32, call: Option<Told<'_>>, step: u64) -> Option<Departure
 
 /// Where an end by a stop departs.
 fn judge_stop(value: u32, happens: Outcome<'_>, step: u64) -> Option<Departure>
-    ensures { (end : Ending) → end.cause ≡ 2 → end.value ≡ value → (call : Option Told)
+    ensures { (end : RunEnd) → end.cause ≡ 2 → end.value ≡ value → (call : Option LoggedCall)
         → result ≡ departs_at_end end call happens.entry step }
 {
     let Outcome::Stop(cause) = happens else {
@@ -113,7 +101,7 @@ fn judge_stop(value: u32, happens: Outcome<'_>, step: u64) -> Option<Departure>
 }
 
 /// Why the run stops at its last step. Of an exit it searches the entries for the call of the step before.
-fn halt_at_end(entries: &[Entry<'_>], machine: &Machine, end: Ending, step: u64) -> Halt
+fn halt_at_end(entries: &[Entry<'_>], machine: &Machine, end: RunEnd, step: u64) -> Halt
     ensures { result ≡ end_halt (departs_at_end end (call_before entries.now end.step) (outcome machine.now.state) step) }
 {
     let departure = match end.cause {
@@ -133,7 +121,7 @@ pub(crate) fn halt_before(
     rest: &[Entry<'_>],
     entries: &[Entry<'_>],
     machine: &Machine,
-    end: Ending,
+    end: RunEnd,
     step: u64,
 ) -> Option<Halt>
     requires { AreLawful step rest.now }
@@ -150,7 +138,7 @@ pub(crate) fn halt_before(
 }
 
 /// Where a call departs from the one that the log tells, but for its writes.
-fn judge_call(machine: &Machine, call: &Told<'_>, step: u64) -> Option<Departure>
+fn judge_call(machine: &Machine, call: &LoggedCall<'_>, step: u64) -> Option<Departure>
     ensures { result ≡ departs_before_writes call.now step machine.now.state }
 {
     let number = machine.reg(CALL_NUMBER);
@@ -161,7 +149,7 @@ fn judge_call(machine: &Machine, call: &Told<'_>, step: u64) -> Option<Departure
 }
 
 /// Where the first argument departs that is another one.
-fn judge_arguments(machine: &Machine, call: &Told<'_>, step: u64) -> Option<Departure>
+fn judge_arguments(machine: &Machine, call: &LoggedCall<'_>, step: u64) -> Option<Departure>
     ensures { result ≡ first_of (map (departs_for_argument call.now step machine.now.state)
         (0 ∷ 1 ∷ 2 ∷ 3 ∷ 4 ∷ 5 ∷ [])) }
 {
@@ -184,7 +172,7 @@ pub(crate) fn step_without_call<'a>(
     meter: &mut StepMeter,
 ) -> Result<Touched<'a>, Halt>
     requires { meter.old < 2 ^ 64 - 1 }
-    ensures verdict { (end : Ending) → end.step ≡ last → result
+    ensures verdict { (end : RunEnd) → end.step ≡ last → result
         ≡ step_verdict (departs_by end (outcome machine.old.state) None step machine.old.state) (outcome machine.old.state) None }
     ensures machine { machine.new.state ≡ step_leaves result (outcome machine.old.state) None machine.old.state }
     ensures meter { meter.new ≡ meter.old + (if is_ok result then 1 else 0) }
@@ -211,7 +199,7 @@ pub(crate) fn step_without_call<'a>(
 /// The answer to a call whose number and arguments are right.
 fn answer<'a>(
     machine: &mut Machine,
-    call: &Told<'a>,
+    call: &LoggedCall<'a>,
     step: u64,
     meter: &mut StepMeter,
 ) -> Result<Touched<'a>, Halt>
@@ -238,12 +226,12 @@ fn answer<'a>(
 /// A step at which the log tells a call.
 fn step_with_call<'a>(
     machine: &mut Machine,
-    call: &Told<'a>,
+    call: &LoggedCall<'a>,
     step: u64,
     meter: &mut StepMeter,
 ) -> Result<Touched<'a>, Halt>
     requires { meter.old < 2 ^ 64 - 1 }
-    ensures verdict { (end : Ending) → result
+    ensures verdict { (end : RunEnd) → result
         ≡ step_verdict (departs_by end (outcome machine.old.state) (Some call.now) step machine.old.state) (outcome machine.old.state) (Some call.now) }
     ensures machine { machine.new.state
         ≡ step_leaves result (outcome machine.old.state) (Some call.now) machine.old.state }
@@ -270,13 +258,13 @@ fn step_with_call<'a>(
 /// A step before the last one; `call` is the one that the log tells for it, and `last` the run's last step.
 pub(crate) fn step_by<'a>(
     machine: &mut Machine,
-    call: Option<Told<'a>>,
+    call: Option<LoggedCall<'a>>,
     last: u64,
     step: u64,
     meter: &mut StepMeter,
 ) -> Result<Touched<'a>, Halt>
     requires { meter.old < 2 ^ 64 - 1 }
-    ensures verdict { (end : Ending) → end.step ≡ last → result
+    ensures verdict { (end : RunEnd) → end.step ≡ last → result
         ≡ step_verdict (departs_by end (outcome machine.old.state) call.entry step machine.old.state) (outcome machine.old.state) call.entry }
     ensures machine { machine.new.state ≡ step_leaves result (outcome machine.old.state) call.entry machine.old.state }
     ensures meter { meter.new ≡ meter.old + (if is_ok result then 1 else 0) }

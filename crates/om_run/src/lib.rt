@@ -4,12 +4,12 @@
 mod departure;
 mod judge;
 mod laws;
+mod logged;
 mod replay;
 #[cfg(test)]
 mod tests;
-mod told;
 
 pub use departure::{Departure, Halt, Reason};
 pub use laws::{causality, in_order, reach};
+pub use logged::{LoggedCall, RunEnd, is_exit};
 pub use replay::Replay;
-pub use told::{Ending, Told};

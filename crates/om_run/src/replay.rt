@@ -13,7 +13,7 @@ ghost use Rattle.om_run.specs.Walk.{end_of_quiet};
 
 use crate::departure::Halt;
 use crate::judge::{halt_before, step_by, step_without_call};
-use crate::told::{Ending, find_end, first_call, skip_to};
+use crate::logged::{RunEnd, find_end, first_call, skip_to};
 use om_elf::Elf;
 use om_log::{Entry, Log};
 use om_step::{Core, Machine, MapFault, Pages, StepMeter, Touched};
@@ -31,7 +31,7 @@ pub struct Replay<'a> {
     cleared: u64,
     /// The entries that aren't behind it.
     rest: &'a [Entry<'a>],
-    end: Ending,
+    end: RunEnd,
     /// Before this step the log tells nothing: one test at each step.
     quiet_until: u64,
 }

@@ -3,7 +3,7 @@
 ghost use Rattle.om_elf.specs.Image.{AreLoadable};
 ghost use Rattle.om_log.specs.Grammar.{IsLawfulLog};
 
-use crate::{Departure, Halt, Reason, Replay};
+use crate::{Departure, Halt, Reason, Replay, is_exit};
 use om_elf::{Elf, read_elf};
 use om_log::{Log, read_log};
 use om_step::{MapFault, Pages, StepMeter};
@@ -67,6 +67,21 @@ fn replayed(
 {
     let mut replay = Replay::start(alloc, elf, log)?;
     Ok(halted(&mut replay, 20))
+}
+
+#[test]
+fn exit_and_exit_group_exit(rt: HostRuntime) -> Result<(), Fail> {
+    // Those of Linux on RISC-V: write, personality, exit, exit_group, waitid.
+    for (number, want) in [
+        (64, false),
+        (92, false),
+        (93, true),
+        (94, true),
+        (95, false),
+    ] {
+        assert_eq!(rt; is_exit(number), want, "call {number}");
+    }
+    Ok(())
 }
 
 #[test]

@@ -1,6 +1,6 @@
 use Rattle.std.proofs.Common.{◌≡◌, ◌<◌, ◌++◌, None, ap, sym, ◌∙◌, arith}
 use Rattle.std.proofs.lemmas.Result.{err_from_is_err_and}
-use Rattle.om_record.specs.Walk.{IsAt, moment, told_before}
+use Rattle.om_record.specs.Walk.{IsAt, moment, entries_before}
 use Rattle.om_record.proofs.RunLemmas.{at_start, at_marked, at_walked, at_reached, at_served_by, mark_at}
 use Rattle.om_record.proofs.MadeLemmas.{call_full, end_known, end_stop, goes_on, log_finish, made_finish, mark_full}
 use Rattle.om_step.specs.State.{Standing}
@@ -20,9 +20,9 @@ returns-in_err-push_mark-clause-made c =
 
 -- behind the mark of its step
 marked : (c : In_ok-push_mark) → IsAt c.args.elf.now c.args.input.now c.args.limit c.loop-writer.process.meter (moment c.loop-writer.process.machine.state c.loop-writer.process.host)
-    (told_before c.args.elf.now c.args.input.now c.args.limit c.loop-writer.process.meter ++ mark_at c.args.limit c.loop-writer.process.meter (moment c.loop-writer.process.machine.state c.loop-writer.process.host))
+    (entries_before c.args.elf.now c.args.input.now c.args.limit c.loop-writer.process.meter ++ mark_at c.args.limit c.loop-writer.process.meter (moment c.loop-writer.process.machine.state c.loop-writer.process.host))
     c.push_mark.new.writer c.loop-writer.exit
-marked c = at_marked _ _ _ _ _ _ _ _ _ c.loop-writer.invariant c.value-step.ensures c.in_ok-push_mark.ensures.told c.in_ok-push_mark.ensures.stand
+marked c = at_marked _ _ _ _ _ _ _ _ _ c.loop-writer.invariant c.value-step.ensures c.in_ok-push_mark.ensures.logged c.in_ok-push_mark.ensures.stand
 
 pub returns-in-Some-clause-made : goal.returns-in-Some-clause-made
 returns-in-Some-clause-made c =
@@ -52,10 +52,10 @@ loop-writer-preserved-in-Reached c =
 -- behind a walk that ended before the next mark
 walked : (c : After-walk) → c.walk.new.self.meter < c.next_mark.result
     → IsAt c.args.elf.now c.args.input.now c.args.limit c.walk.new.self.meter (moment c.walk.new.self.machine.state c.walk.new.self.host)
-    (told_before c.args.elf.now c.args.input.now c.args.limit c.walk.new.self.meter ++ mark_at c.args.limit c.walk.new.self.meter (moment c.walk.new.self.machine.state c.walk.new.self.host))
+    (entries_before c.args.elf.now c.args.input.now c.args.limit c.walk.new.self.meter ++ mark_at c.args.limit c.walk.new.self.meter (moment c.walk.new.self.machine.state c.walk.new.self.host))
     c.push_mark.new.writer None
 walked c early =
-    let at = at_marked _ _ _ _ _ _ _ _ _ c.loop-writer.invariant c.value-step.ensures c.in_ok-push_mark.ensures.told c.in_ok-push_mark.ensures.stand in
+    let at = at_marked _ _ _ _ _ _ _ _ _ c.loop-writer.invariant c.value-step.ensures c.in_ok-push_mark.ensures.logged c.in_ok-push_mark.ensures.stand in
     let on = goes_on c.loop-writer.exit c.loop-writer.process.meter c.args.limit (rw c.value-step.ensures at (sym c.known_end.ensures.end ∙ c.in_default.is)) in
     rw c.walk.ensures.host (at_walked c.args.elf.now c.args.input.now c.args.limit c.next_mark.result c.loop-writer.process.meter c.walk.new.self.meter
     (moment c.loop-writer.process.machine.state c.loop-writer.process.host) c.walk.new.self.machine.state c.push_mark.new.writer (rw on.0 at at)
@@ -75,7 +75,7 @@ loop-writer-preserved c =
     let at = walked (goal.at.loop-writer-preserved c).After-walk early in
     let served = c.in_ok-exit-in-AtCall.ensures in
     rw (served.meter, served.served, served.exit) (at_served_by c.args.elf.now c.args.input.now c.args.limit c.walk.new.self.meter _ c.push_mark.new.writer c.serve.new.writer
-    at (omega (arith, early, c.next_mark.ensures.within)) c.in-AtCall.ensures.pause.1 c.args.start c.requires.start served.told served.stand)
+    at (omega (arith, early, c.next_mark.ensures.within)) c.in-AtCall.ensures.pause.1 c.args.start c.requires.start served.logged served.stand)
 
 pub returns-in-AtStop-clause-made : goal.returns-in-AtStop-clause-made
 returns-in-AtStop-clause-made c =

@@ -1,5 +1,6 @@
 use Rattle.std.proofs.Common.{◌≡◌, ◌∷◌, [], map, drop}
-use Rattle.om_run.specs.Departure.{departs_for_argument, first_of}
+use Rattle.om_base.specs.Firsts.{first_of}
+use Rattle.om_run.specs.Departure.{departs_for_argument}
 use Rattle.om_run.proofs.judge.judge_arguments.Given as goal
 
 abbrev pub invariant-loop-j : goal.invariant-loop-j

@@ -1,7 +1,7 @@
 use Rattle.std.proofs.Common.{◌≡◌, drop}
 use Rattle.om_log.specs.Grammar.{AreLawful}
 use Rattle.om_run.specs.Run.{due}
-use Rattle.om_run.proofs.told.first_call.Given as goal
+use Rattle.om_run.proofs.logged.first_call.Given as goal
 
 abbrev pub invariant-loop-entry : goal.invariant-loop-entry
 invariant-loop-entry l =

@@ -2,6 +2,7 @@
 
 ghost use Rattle.std.specs.Prelude.{◌≡◌, ◌∷◌, [], List, if◌then◌else◌};
 ghost use Rattle.om_run.specs.Run.{due, end_of};
+ghost use Rattle.om_run.specs.Departure as spec;
 ghost use Rattle.om_run.specs.Departure.{call_before};
 ghost use Rattle.om_run.specs.Walk.{from_step};
 ghost use Rattle.om_log.specs.Grammar.{AreLawful};
@@ -9,9 +10,14 @@ ghost use Rattle.om_log.specs.declared.entry.Entry.{Entry};
 
 use om_log::{Entry, Writes};
 
+/// The numbers of the calls that exit.
+const EXIT: u32 = 93;
+
+const EXIT_GROUP: u32 = 94;
+
 /// What a log tells of a call.
 #[derive(Debug, Drop)]
-pub struct Told<'a> {
+pub struct LoggedCall<'a> {
     /// The call's number, from a7.
     pub number: u32,
     /// Its arguments, from a0 to a5.
@@ -22,9 +28,9 @@ pub struct Told<'a> {
     pub writes: Writes<'a>,
 }
 
-/// What a log tells of its end.
+/// How a run ends, as its log tells it.
 #[derive(Clone, Copy, Debug, PartialEq, Eq)]
-pub struct Ending {
+pub struct RunEnd {
     /// The last step.
     pub step: u64,
     /// 0 for an exit, 1 for a cut, 2 for a stop.
@@ -33,20 +39,27 @@ pub struct Ending {
     pub value: u32,
 }
 
+/// Whether a call of this number exits: `exit` and `exit_group` of Linux on RISC-V.
+pub fn is_exit(number: u32) -> bool
+    ensures { result ≡ spec.is_exit number }
+{
+    number == EXIT || number == EXIT_GROUP
+}
+
 /// The end that a log tells.
-pub(crate) fn find_end(entries: &[Entry<'_>]) -> Ending
+pub(crate) fn find_end(entries: &[Entry<'_>]) -> RunEnd
     ensures { result ≡ end_of entries.now }
 {
     for entry in entries {
         if let Entry::End { step, cause, value } = entry {
-            return Ending {
+            return RunEnd {
                 step: *step,
                 cause: *cause,
                 value: *value,
             };
         }
     }
-    Ending {
+    RunEnd {
         step: 0,
         cause: 1,
         value: 0,
@@ -54,7 +67,7 @@ pub(crate) fn find_end(entries: &[Entry<'_>]) -> Ending
 }
 
 /// What an entry tells, if it is a call of this step.
-fn told_by<'a>(entry: &Entry<'a>, at: u64) -> Option<Told<'a>>
+fn call_in<'a>(entry: &Entry<'a>, at: u64) -> Option<LoggedCall<'a>>
     ensures { result ≡ due (entry.now ∷ []) at }
 {
     match entry {
@@ -68,7 +81,7 @@ fn told_by<'a>(entry: &Entry<'a>, at: u64) -> Option<Told<'a>>
             if *step != at {
                 return None;
             }
-            Some(Told {
+            Some(LoggedCall {
                 number: *number,
                 arguments: *args,
                 result: *result,
@@ -80,11 +93,11 @@ fn told_by<'a>(entry: &Entry<'a>, at: u64) -> Option<Told<'a>>
 }
 
 /// The call that a log tells for a step. It searches the whole log.
-fn find_call<'a>(entries: &[Entry<'a>], at: u64) -> Option<Told<'a>>
+fn find_call<'a>(entries: &[Entry<'a>], at: u64) -> Option<LoggedCall<'a>>
     ensures { result ≡ due entries.now at }
 {
     for entry in entries {
-        if let Some(call) = told_by(entry, at) {
+        if let Some(call) = call_in(entry, at) {
             return Some(call);
         }
     }
@@ -92,7 +105,7 @@ fn find_call<'a>(entries: &[Entry<'a>], at: u64) -> Option<Told<'a>>
 }
 
 /// The call of the step before this one. It searches the whole log.
-pub(crate) fn find_call_before<'a>(entries: &[Entry<'a>], at: u64) -> Option<Told<'a>>
+pub(crate) fn find_call_before<'a>(entries: &[Entry<'a>], at: u64) -> Option<LoggedCall<'a>>
     ensures { result ≡ call_before entries.now at }
 {
     if at == 0 {
@@ -102,7 +115,7 @@ pub(crate) fn find_call_before<'a>(entries: &[Entry<'a>], at: u64) -> Option<Tol
 }
 
 /// The call of a step that no entry is earlier than. It passes the marks of that step alone.
-pub(crate) fn first_call<'a>(entries: &[Entry<'a>], at: u64) -> Option<Told<'a>>
+pub(crate) fn first_call<'a>(entries: &[Entry<'a>], at: u64) -> Option<LoggedCall<'a>>
     requires { AreLawful at entries.now }
     ensures { result ≡ due entries.now at }
 {
@@ -110,7 +123,7 @@ pub(crate) fn first_call<'a>(entries: &[Entry<'a>], at: u64) -> Option<Told<'a>>
         if entry.step() != at {
             return None;
         }
-        if let Some(call) = told_by(entry, at) {
+        if let Some(call) = call_in(entry, at) {
             return Some(call);
         }
     }
