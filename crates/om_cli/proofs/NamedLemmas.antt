@@ -1,16 +1,16 @@
 -- That there is a name for each column, and a cell in each row.
-use Rattle.std.proofs.Common.{◌≡◌, ℕ, suc, ◌+◌, List, [], ◌∷◌, length, map, All, Option, Some, None, refl, sym, ap, subst, ◌∙◌}
+use Rattle.std.proofs.Common.{◌≡◌, ℕ, suc, List, [], ◌∷◌, length, map, filter, All, Option, Some, None, refl, sym, ap, subst, ◌∙◌}
 use Rattle.std.specs.Option.{option_map}
 use Rattle.std.proofs.lemmas.List.{length-map}
 use Rattle.std.proofs.lemmas.List.Elements.{All-nil, All-cons}
 use Rattle.om_eval.specs.Meaning.{cell_at}
+use Rattle.om_eval.specs.Row.{Row}
 use Rattle.om_eval.specs.declared.column.ColumnId.{ColumnId}
 use Rattle.om_eval.specs.declared.value.Owned.{Owned}
 use Rattle.om_log.specs.declared.entry.Entry.{Entry}
 use Rattle.om_parse.specs.declared.tree.Item.{Item}
-use Rattle.om_run.specs.Run.{end_of}
 use Rattle.om_step.specs.State.{State}
-use Rattle.om_cli.specs.Answer.{answer_rows, cells_at, cells_of, kept_below, row_at}
+use Rattle.om_cli.specs.Answer.{answer_rows, cells_of, is_kept, relation}
 use Rattle.om_cli.specs.Asked.{columns_of, names_of, column_of, name_of}
 use Rattle.om_cli.specs.Somes.{all_some}
 use Rattle.om_cli.specs.declared.asked.Question.{Question}
@@ -37,10 +37,10 @@ named_by items columns names found named =
     ∙ sym (length-all_some (map (λ (item : Item). column_of item.expr) items) columns found ∙ length-map items (λ (item : Item). column_of item.expr))
 
 -- each row has a cell for each column
-wide : (entries : List Entry) (first : State) (question : Question) (numbers : List ℕ) → All (λ (row : List Owned). length row ≡ length question.columns) (cells_at entries first question numbers)
-wide entries first question [] = All-nil _
-wide entries first question (i ∷ is) =
-    All-cons (λ (row : List Owned). length row ≡ length question.columns) (cells_of question (row_at entries first i)) (cells_at entries first question is) (length-map question.columns (cell_at (row_at entries first i))) (wide entries first question is)
+wide : (question : Question) (rows : List Row) → All (λ (row : List Owned). length row ≡ length question.columns) (map (cells_of question) rows)
+wide question [] = All-nil _
+wide question (row ∷ rows) =
+    All-cons (λ (row : List Owned). length row ≡ length question.columns) (cells_of question row) (map (cells_of question) rows) (length-map question.columns (cell_at row)) (wide question rows)
 
 -- each row of an answer has a cell for each name
 pub named_rows : (entries : List Entry) (first : State) (question : Question) (rows : List (List Owned)) → length question.names ≡ length question.columns → rows ≡ answer_rows entries first question → All (λ (row : List Owned). length row ≡ length question.names) rows
@@ -48,4 +48,4 @@ unfolding answer_rows
 named_rows entries first question rows named are =
     subst (λ (n : ℕ). All (λ (row : List Owned). length row ≡ n) rows) (sym named)
     (subst (λ (all : List (List Owned)). All (λ (row : List Owned). length row ≡ length question.columns) all) (sym are)
-    (wide entries first question (kept_below entries first question.filter ((end_of entries).step + 1))))
+    (wide question (filter (is_kept question) (relation entries first))))

@@ -1,47 +1,69 @@
 -- A replay that looks at each state, step by step.
-use Rattle.std.proofs.Common.{◌≡◌, ℕ, zero, suc, ◌+◌, ◌<◌, ◌≤◌, List, [], ◌∷◌, ◌++◌, filter, Bool, true, false, nat_lt, nat_eq, refl, sym, ap, subst, ◌∙◌, arith, add-one, if◌then◌else◌, Ok, Err, Some, None}
+use Rattle.std.proofs.Common.{◌≡◌, ℕ, zero, suc, ◌+◌, ◌<◌, ◌≤◌, List, [], ◌∷◌, ◌++◌, length, map, filter, Bool, true, false, nat_lt, nat_eq, refl, sym, ap, subst, ◌∙◌, arith, add-one, if◌then◌else◌, Ok, Err, Some, None}
 use Rattle.std.specs.Prelude.{Option, Result}
 use Rattle.std.specs.Option.{option_or}
-use Rattle.std.proofs.lemmas.List.{map-append}
+use Rattle.std.proofs.lemmas.List.{length-append, length-map, map-append}
 use Rattle.std.proofs.lemmas.List.Elements.{filter-append}
 use Rattle.std.proofs.lemmas.Bool.Decides.{nat_tests}
-use Rattle.om_eval.specs.Meaning.{truth}
-use Rattle.om_eval.specs.Row.{row_tuple}
+use Rattle.om_eval.specs.Row.{Row}
 use Rattle.om_eval.specs.declared.value.Owned.{Owned}
 use Rattle.om_log.specs.declared.entry.Entry.{Entry}
 use Rattle.om_run.specs.Departure.{departs_at, departure_of, first_departure}
-use Rattle.om_run.specs.Run.{due, below, end_of, state_at}
+use Rattle.om_run.specs.Run.{due, below, end_of, state_at, states}
 use Rattle.om_run.specs.Replay.{Place, goes_on, here, touched_by_step, verdict_at}
 use Rattle.om_run.proofs.RunLemmas.{first_departure_append, first_departure_next}
 use Rattle.om_run.specs.declared.departure.Departure.{Departure}
 use Rattle.om_run.specs.declared.departure.Halt.TheVariants.{Departs, Ended}
-use Rattle.om_cli.specs.Rows.{GivesRows, stopped}
+use Rattle.om_cli.specs.Rows.{GivesRows, noted, row_at, rows_before, stopped}
 use Rattle.om_cli.specs.declared.rows.Stopped.{Stopped}
 use Rattle.om_cli.specs.declared.rows.Stopped.TheVariants.{Departs as Departed}
 use Rattle.om_step.specs.Step.{outcome}
 use Rattle.om_step.specs.declared.outcome.Touched.{Touched}
 use Rattle.om_run.specs.declared.departure.Halt.{Halt}
 use Rattle.om_step.specs.State.{State}
-use Rattle.om_cli.specs.Answer.{answer_rows, cells_at, cells_of, is_yes, kept_below, noted, row_at}
+use Rattle.om_cli.specs.Answer.{answer_rows, cells_of, is_kept, kept_of, rows_from}
 use Rattle.om_cli.specs.View.{row_of}
 use Rattle.om_cli.specs.declared.asked.Question.{Question}
 
 -- ---- the rows
 
--- the cells of the one row, if a test holds
-cells_if : (b : Bool) (entries : List Entry) (first : State) (question : Question) (i : ℕ)
-    → cells_at entries first question (if b then i ∷ [] else []) ≡ (if b then cells_of question (row_at entries first i) ∷ [] else [])
-cells_if true entries first question i = refl
-cells_if false entries first question i = refl
+-- the rows of some states and of those after them
+rows_from-append : (step : ℕ) (states later : List State) → rows_from step (states ++ later) ≡ rows_from step states ++ rows_from (step + length states) later
+rows_from-append step [] later = ap (λ (n : ℕ). rows_from n later) (let none : step ≡ step + 0 = omega arith in none)
+rows_from-append step (state ∷ states) later =
+    let more : step + 1 + length states ≡ step + suc (length states) = omega arith in
+    ap (λ (rows : List Row). row_of state step ∷ rows) (rows_from-append (step + 1) states later)
+    ∙ ap (λ (n : ℕ). row_of state step ∷ (rows_from (step + 1) states ++ rows_from n later)) more
 
--- the rows kept up to one more are those so far, and that one where the condition is true
-pub cells-next : (entries : List Entry) (first : State) (question : Question) (i : ℕ)
-    → cells_at entries first question (kept_below entries first question.filter (i + 1))
-    ≡ cells_at entries first question (kept_below entries first question.filter i) ++ noted question (row_at entries first i)
-cells-next entries first question i =
-    let passes : ℕ → Bool = λ k. is_yes (truth (row_tuple (row_at entries first k)) question.filter) in
-    rw (add-one, filter-append passes (below i) (i ∷ []), map-append (λ k. cells_of question (row_at entries first k)) (filter passes (below i)) (filter passes (i ∷ [])))
-    (ap (λ cells. cells_at entries first question (filter passes (below i)) ++ cells) (cells_if (passes i) entries first question i))
+-- there are n numbers below n
+length-below : (n : ℕ) → length (below n) ≡ n
+length-below zero = refl
+length-below (suc n) = let less = length-below n in omega (arith, length-append (below n) (n ∷ []))
+
+-- the rows before one step more
+rows_before-next : (entries : List Entry) (first : State) (i : ℕ)
+    → rows_before entries first (i + 1) ≡ rows_before entries first i ++ row_at entries first i ∷ []
+rows_before-next entries first i =
+    let count : 0 + length (map (state_at entries first) (below i)) ≡ i = omega (arith, length-map (below i) (state_at entries first), length-below i) in
+    rw (add-one, map-append (state_at entries first) (below i) (i ∷ []))
+    (rows_from-append 0 (map (state_at entries first) (below i)) (state_at entries first i ∷ [])
+    ∙ ap (λ (n : ℕ). rows_before entries first i ++ row_of (state_at entries first i) n ∷ []) count)
+
+-- the cells of the one row, if a test holds
+cells_if : (b : Bool) (question : Question) (row : Row)
+    → map (cells_of question) (if b then row ∷ [] else []) ≡ (if b then cells_of question row ∷ [] else [])
+cells_if true question row = refl
+cells_if false question row = refl
+
+-- what is kept of the rows before one step more: what is kept so far, and that row where the condition is true
+pub kept_of-next : (entries : List Entry) (first : State) (question : Question) (i : ℕ)
+    → kept_of question (rows_before entries first (i + 1))
+    ≡ kept_of question (rows_before entries first i) ++ noted question (row_at entries first i)
+kept_of-next entries first question i =
+    let rows = rows_before entries first i in
+    let row = row_at entries first i in
+    rw (rows_before-next entries first i, filter-append (is_kept question) rows (row ∷ []), map-append (cells_of question) (filter (is_kept question) rows) (filter (is_kept question) (row ∷ [])))
+    (ap (λ (cells : List (List Owned)). kept_of question rows ++ cells) (cells_if (is_kept question row) question row))
 
 -- ---- the departures
 
@@ -125,27 +147,27 @@ row_here place entries first same begins =
 
 -- the rows after a place was looked at
 pub kept-next : (place : Place) (entries : List Entry) (first : State) (question : Question) (rows new : List (List Owned)) → place.entries ≡ entries → place.first ≡ first
-    → rows ≡ cells_at entries first question (kept_below entries first question.filter place.step)
+    → rows ≡ kept_of question (rows_before entries first place.step)
     → new ≡ rows ++ noted question (row_at place.entries place.first place.step)
-    → new ≡ cells_at entries first question (kept_below entries first question.filter (place.step + 1))
+    → new ≡ kept_of question (rows_before entries first (place.step + 1))
 kept-next place entries first question rows new same begins kept looked =
-    rw (cells-next entries first question place.step, ← kept, ← row_here place entries first same begins) looked
+    rw (kept_of-next entries first question place.step, ← kept, ← row_here place entries first same begins) looked
 
 -- a replay that came to its end
 pub finished : (place : Place) (entries : List Entry) (first : State) (question : Question) (new : List (List Owned)) → place.entries ≡ entries → place.first ≡ first
     → place.step ≤ (end_of entries).step
     → first_departure entries first (below place.step) ≡ None
-    → new ≡ cells_at entries first question (kept_below entries first question.filter (place.step + 1))
+    → new ≡ kept_of question (rows_before entries first (place.step + 1))
     → verdict_at place ≡ Err Ended
     → (departure_of entries first ≡ None) × (new ≡ answer_rows entries first question)
-unfolding departure_of answer_rows
+unfolding departure_of answer_rows states
 finished place entries first question new same begins within going kept e =
     let over = ends place e in
     let least = over.1 in
     let last = last_of place entries same in
     let end : place.step ≡ (end_of entries).step = omega arith in
     let none = first_departure-next entries first place.step going (at_place place entries first None same begins over.0) in
-    (ap (λ (n : ℕ). first_departure entries first (below (n + 1))) (sym end) ∙ none, kept ∙ ap (λ (n : ℕ). cells_at entries first question (kept_below entries first question.filter (n + 1))) end)
+    (ap (λ (n : ℕ). first_departure entries first (below (n + 1))) (sym end) ∙ none, kept ∙ ap (λ (n : ℕ). kept_of question (rows_before entries first (n + 1))) end)
 
 -- a replay that departed
 pub departed : (place : Place) (entries : List Entry) (first : State) (told : Departure) → place.entries ≡ entries → place.first ≡ first

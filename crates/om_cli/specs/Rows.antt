@@ -1,15 +1,30 @@
 -- What a replay answers.
-use Rattle.std.specs.Prelude.{◌≡◌, List, Option, Some, None, Result, Ok, Err}
+use Rattle.std.specs.Prelude.{◌≡◌, ℕ, List, [], ◌∷◌, map, if◌then◌else◌, Option, Some, None, Result, Ok, Err}
+use Rattle.om_eval.specs.Row.{Row}
 use Rattle.om_eval.specs.declared.value.Owned.{Owned}
 use Rattle.om_log.specs.declared.entry.Entry.{Entry}
 use Rattle.om_run.specs.Departure.{departure_of}
+use Rattle.om_run.specs.Run.{below, state_at}
 use Rattle.om_run.specs.declared.departure.Halt.{Halt}
 use Rattle.om_run.specs.declared.departure.Halt.TheVariants as halt
 use Rattle.om_step.specs.State.{State}
-use Rattle.om_cli.specs.Answer.{answer_rows}
+use Rattle.om_cli.specs.Answer.{answer_rows, cells_of, is_kept, rows_from}
+use Rattle.om_cli.specs.View.{row_of}
 use Rattle.om_cli.specs.declared.asked.Question.{Question}
 use Rattle.om_cli.specs.declared.rows.Stopped.{Stopped}
 use Rattle.om_cli.specs.declared.rows.Stopped.TheVariants.{NoMemory, Departs}
+
+-- the row of the state after so many steps
+abbrev pub row_at : List Entry → State → ℕ → Row
+row_at entries first i = row_of (state_at entries first i) i
+
+-- the rows of the states before a step
+abbrev pub rows_before : List Entry → State → ℕ → List Row
+rows_before entries first i = rows_from 0 (map (state_at entries first) (below i))
+
+-- a row's cells, if the condition is true at it
+abbrev pub noted : Question → Row → List (List Owned)
+noted question row = if is_kept question row then cells_of question row ∷ [] else []
 
 -- the answer is the rows of a run that comes to its end, how one departs from its log, or want of memory
 abbrev pub GivesRows : List Entry → State → Question → Result (List (List Owned)) Stopped → Type 0

@@ -1,7 +1,8 @@
 use Rattle.std.proofs.Common.{◌≡◌, ◌-◌, ◌≤◌, None}
 use Rattle.om_run.specs.Departure.{first_departure}
 use Rattle.om_run.specs.Run.{below, end_of}
-use Rattle.om_cli.specs.Answer.{cells_at, kept_below}
+use Rattle.om_cli.specs.Answer.{kept_of}
+use Rattle.om_cli.specs.Rows.{rows_before}
 use Rattle.om_cli.proofs.rows.rows_of.Given as goal
 
 -- the run is the same, it didn't depart so far, and the rows so far are kept
@@ -11,7 +12,7 @@ invariant-loop-rows l = record {
   first : l.replay.first ≡ l.fn.replay.first;
   within : l.replay.step ≤ (end_of l.fn.replay.entries).step;
   going : first_departure l.fn.replay.entries l.fn.replay.first (below l.replay.step) ≡ None;
-  kept : l.rows ≡ cells_at l.fn.replay.entries l.fn.replay.first l.question (kept_below l.fn.replay.entries l.fn.replay.first l.question.filter l.replay.step);
+  kept : l.rows ≡ kept_of l.question (rows_before l.fn.replay.entries l.fn.replay.first l.replay.step);
   metered : l.meter ≡ l.replay.step;
 }
 
