@@ -5,7 +5,7 @@ use Rattle.om_elf.specs.Executable.{elf_fault, elf_in}
 use Rattle.om_elf.specs.Gives.{Gives}
 use Rattle.om_elf.specs.declared.fault.ElfFault.{ElfFault}
 use Rattle.om_elf.specs.declared.fault.ElfFault.TheVariants as elf
-use Rattle.om_io.specs.Shelf.{Contents, Holds}
+use Rattle.om_io.specs.Shelf.{FilesByName, Holds}
 use Rattle.om_log.specs.Grammar.{IsLog}
 use Rattle.om_log.specs.Faults.{IsFault}
 use Rattle.om_log.specs.declared.fault.LogFault.{LogFault}
@@ -13,17 +13,14 @@ use Rattle.om_log.specs.declared.fault.LogFault.TheVariants as log
 use Rattle.om_log.specs.declared.log.Log.{Log}
 use Rattle.om_parse.specs.declared.fault.ParseFault.{ParseFault}
 use Rattle.om_parse.specs.declared.tree.Query.{Query}
-use Rattle.om_record.specs.Recording.{Makes, recording}
 use Rattle.om_record.specs.declared.recorded.Recorded.{Recorded}
-use Rattle.om_record.specs.declared.recorded.RecordFault.{RecordFault}
-use Rattle.om_record.specs.declared.recorded.RecordFault.TheVariants as recorder
 use Rattle.std.specs.Io.KnownBytes.{Appends, Keeps}
 use Rattle.std.proofs.lemmas.List.{append-nil}
 use Rattle.om_cli.specs.Lines.{End, no_memory, unread}
 use Rattle.om_cli.specs.Result.{Counts, Ends, HasCause, ReadsFile}
-use Rattle.om_cli.specs.Outcome.{Outcome, Request, queries, records, prints, puts, misses, depends, exceeds, first_file, second_file, judged, most_steps, outcome_for, recorded_run, refuses, seen_in}
+use Rattle.om_cli.specs.Command.{Effect, Request, queries, records, prints, puts, misses, depends, exceeds, first_file, second_file, judged, effect_for, recorded_run, refuses, seen_in}
 use Rattle.om_cli.specs.Readings.{IsLogReading, IsQueryReading}
-use Rattle.om_cli.specs.Reads.{AnswersLog, AnswersText, AreReadings, AreReadingsOf, GivesLog, GivesText, HasRead, IsMet, IsRefused, IsUnread, Reads, end_of_refused, refused_by, refused_by_elf, told_by_recorder}
+use Rattle.om_cli.specs.Reads.{AnswersLog, AnswersText, AreReadings, AreReadingsOf, GivesLog, GivesText, IsAfterReads, IsMet, IsRefused, IsUnread, Reads, end_of_refused, refused_by, refused_by_elf}
 use Rattle.om_cli.specs.declared.refused.Refused.{Refused}
 use Rattle.om_cli.specs.declared.refused.Refused.TheVariants.{NoMemory, Because, Unread, Exceeded}
 
@@ -59,16 +56,6 @@ elf_unrecorded exe elf.NoMemory input name is = tt
 elf_unrecorded exe elf.Unbuilt input name is = rw is refl
 elf_unrecorded exe fault input name is = rw is refl
 
--- the recording of what a recorder makes
-pub recorder_gives : (exe input name : List ℕ) (result : Result Recorded RecordFault)
-    → elf_fault exe ≡ None → Makes (recording (elf_in exe) input most_steps) result
-    → GivesLog (recorded_run exe input name) name (told_by_recorder result)
-unfolding recorded_run
-recorder_gives exe input name (Ok recorded) has makes = rw (has, makes) refl
-recorder_gives exe input name (Err recorder.NoMemory) has makes = tt
-recorder_gives exe input name (Err (recorder.TooLong step)) has makes = rw (has, makes) refl
-recorder_gives exe input name (Err (recorder.NoRoom a b)) has makes = rw (has, makes) refl
-
 -- the answer where a log has a fault
 pub log_refused : (exe : List ℕ) (fault : LogFault) (read : Result Log LogFault) (query : Result Query ParseFault)
     → elf_fault exe ≡ None → (fault ≡ log.NoMemory) ⊎ (read ≡ Err fault) → GivesText (judged exe read query) (Err (refused_by fault))
@@ -94,34 +81,34 @@ log_depends : (name : List ℕ) (result : Result Recorded Refused) → AnswersLo
 log_depends name (Ok recorded) = inr refl
 log_depends name (Err why) = refused_depends why
 
-text_answers : (outcome : Outcome) (result : Result (List ℕ) Refused) → GivesText outcome result → AnswersText outcome result
-text_answers outcome (Ok text) is = inl is
-text_answers outcome (Err NoMemory) is = tt
-text_answers outcome (Err (Because refusal)) is = inl is
-text_answers outcome (Err (Unread name)) is = tt
-text_answers outcome (Err (Exceeded name)) is = absurd is
+text_answers : (effect : Effect) (result : Result (List ℕ) Refused) → GivesText effect result → AnswersText effect result
+text_answers effect (Ok text) is = inl is
+text_answers effect (Err NoMemory) is = tt
+text_answers effect (Err (Because refusal)) is = inl is
+text_answers effect (Err (Unread name)) is = tt
+text_answers effect (Err (Exceeded name)) is = absurd is
 
-log_answers : (outcome : Outcome) (name : List ℕ) (result : Result Recorded Refused) → GivesLog outcome name result → AnswersLog outcome name result
-log_answers outcome name (Ok recorded) is = inl is
-log_answers outcome name (Err NoMemory) is = tt
-log_answers outcome name (Err (Because refusal)) is = inl is
-log_answers outcome name (Err (Unread told)) is = tt
-log_answers outcome name (Err (Exceeded told)) is = absurd is
+log_answers : (effect : Effect) (name : List ℕ) (result : Result Recorded Refused) → GivesLog effect name result → AnswersLog effect name result
+log_answers effect name (Ok recorded) is = inl is
+log_answers effect name (Err NoMemory) is = tt
+log_answers effect name (Err (Because refusal)) is = inl is
+log_answers effect name (Err (Unread file)) is = tt
+log_answers effect name (Err (Exceeded file)) is = absurd is
 
 -- a request that comes to a file which is refused
-pub unread_first : (request : Request) (files : Option Contents) (read : Result Log LogFault) (query : Result Query ParseFault) (why : Refused) (before after : ℕ)
+pub unread_first : (request : Request) (files : Option FilesByName) (read : Result Log LogFault) (query : Result Query ParseFault) (why : Refused) (before after : ℕ)
     → Reads (seen_in files (first_file request)) (first_file request) before after (Err why)
-    → IsRefused (outcome_for (Some request) files read query) why
+    → IsRefused (effect_for (Some request) files read query) why
 unread_first request files read query NoMemory before after is = tt
 unread_first request files read query (Because refusal) before after is = absurd is
 unread_first request files read query (Unread name) before after is = tt
 unread_first request files read query (Exceeded name) before after (same, inl seen) = inl (rw (seen, same) refl)
 unread_first request files read query (Exceeded name) before after (same, inr unseen) = inr (rw unseen refl)
 
-pub unread_second : (request : Request) (files : Option Contents) (read : Result Log LogFault) (query : Result Query ParseFault) (first : List ℕ) (why : Refused) (before after : ℕ)
+pub unread_second : (request : Request) (files : Option FilesByName) (read : Result Log LogFault) (query : Result Query ParseFault) (first : List ℕ) (why : Refused) (before after : ℕ)
     → IsMet (seen_in files (first_file request)) first
     → Reads (seen_in files (second_file request)) (second_file request) before after (Err why)
-    → IsRefused (outcome_for (Some request) files read query) why
+    → IsRefused (effect_for (Some request) files read query) why
 unread_second request files read query first NoMemory before after met is = tt
 unread_second request files read query first (Because refusal) before after met is = absurd is
 unread_second request files read query first (Unread name) before after met is = tt
@@ -130,28 +117,28 @@ unread_second request files read query first (Exceeded name) before after (inl m
 unread_second request files read query first (Exceeded name) before after (inl met) (same, inr unseen) = inr (rw (met, unseen) refl)
 
 -- the answer over the bytes of both files, where these are seen
-pub text_given : (exe log sql : List ℕ) (files : Option Contents) (program run : List ℕ) (read : Result Log LogFault) (query : Result Query ParseFault) (result : Result (List ℕ) Refused)
+pub text_given : (exe log sql : List ℕ) (files : Option FilesByName) (program run : List ℕ) (read : Result Log LogFault) (query : Result Query ParseFault) (result : Result (List ℕ) Refused)
     → IsMet (seen_in files exe) program → IsMet (seen_in files log) run → AreReadingsOf (queries exe log sql) files read query
     → ((i : ℕ) → slice_index run i < 256)
     → ((r : Result Log LogFault) (q : Result Query ParseFault) → IsLogReading run r → IsQueryReading sql q → GivesText (judged program r q) result)
-    → AnswersText (outcome_for (Some (queries exe log sql)) files read query) result
+    → AnswersText (effect_for (Some (queries exe log sql)) files read query) result
 text_given exe log sql files program run read query result (inr unseen) run_met readings are_bytes answers = rw unseen (text_depends result)
 text_given exe log sql files program run read query result (inl seen) (inr unseen) readings are_bytes answers = rw (seen, unseen) (text_depends result)
 text_given exe log sql files program run read query result (inl seen) (inl run_seen) readings are_bytes answers =
     rw (seen, run_seen) (text_answers (judged program read query) result (answers read query (readings.0 run run_seen are_bytes) readings.1))
 
 -- the log over the bytes of both files, where these are seen
-pub log_given : (exe input name : List ℕ) (files : Option Contents) (program taken : List ℕ) (read : Result Log LogFault) (query : Result Query ParseFault) (result : Result Recorded Refused)
+pub log_given : (exe input name : List ℕ) (files : Option FilesByName) (program taken : List ℕ) (read : Result Log LogFault) (query : Result Query ParseFault) (result : Result Recorded Refused)
     → IsMet (seen_in files exe) program → IsMet (seen_in files input) taken
     → GivesLog (recorded_run program taken name) name result
-    → AnswersLog (outcome_for (Some (records exe input name)) files read query) name result
+    → AnswersLog (effect_for (Some (records exe input name)) files read query) name result
 log_given exe input name files program taken read query result (inr unseen) taken_met gives = rw unseen (log_depends name result)
 log_given exe input name files program taken read query result (inl seen) (inr unseen) gives = rw (seen, unseen) (log_depends name result)
 log_given exe input name files program taken read query result (inl seen) (inl taken_seen) gives =
     rw (seen, taken_seen) (log_answers (recorded_run program taken name) name result gives)
 
 -- an answer over bytes has left no file unread
-pub read_all : {T : Type 0} (result : Result T Refused) (comes : List ℕ → Type 0) (before now : List ℕ → ℕ) → IfErr result HasRead → IfErr result (IsUnread comes before now)
+pub read_all : {T : Type 0} (result : Result T Refused) (comes : List ℕ → Type 0) (before now : List ℕ → ℕ) → IfErr result IsAfterReads → IfErr result (IsUnread comes before now)
 read_all (Ok text) comes before now has = tt
 read_all (Err NoMemory) comes before now has = tt
 read_all (Err (Because refusal)) comes before now has = has
@@ -171,13 +158,13 @@ appends_nothing None = tt
 appends_nothing (Some bytes) = sym (append-nil bytes)
 
 -- a file that isn't put yet
-unput_yet : (before after : Option Contents) (name bytes : List ℕ) → after ≡ before → IfSome before (λ files. (after ≡ before) ⊎ Holds files after name bytes)
+unput_yet : (before after : Option FilesByName) (name bytes : List ℕ) → after ≡ before → IfSome before (λ files. (after ≡ before) ⊎ Holds files after name bytes)
 unput_yet None after name bytes same = tt
 unput_yet (Some files) after name bytes same = inl same
 
 -- a command that has left all as it was, for want of memory
-no_memory_ends : (outcome : Outcome) (old : Option (List ℕ)) (before after : Option Contents)
-    → after ≡ before → Ends outcome old old before after no_memory
+no_memory_ends : (effect : Effect) (old : Option (List ℕ)) (before after : Option FilesByName)
+    → after ≡ before → Ends effect old old before after no_memory
 no_memory_ends (prints text) old before after same = record { is_end = tt; printed = (0, appends_nothing old); left = same }
 no_memory_ends (puts name bytes text) old before after same =
     record { is_end = tt; printed = (0, appends_nothing old); left = unput_yet before after name bytes same }
@@ -187,26 +174,26 @@ no_memory_ends (misses name) old before after same = record { is_end = tt; print
 no_memory_ends depends old before after same = record { is_end = tt; printed = ([], appends_nothing old); left = tt }
 
 -- a command that was refused, and has left all as it was
-pub refused_ends : (outcome : Outcome) (why : Refused) (old : Option (List ℕ)) (before after : Option Contents)
-    → IsRefused outcome why → after ≡ before → Ends outcome old old before after (end_of_refused why)
-refused_ends outcome NoMemory old before after is same = no_memory_ends outcome old before after same
-refused_ends outcome (Unread name) old before after is same = unread_ends outcome name.now old before after same
+pub refused_ends : (effect : Effect) (why : Refused) (old : Option (List ℕ)) (before after : Option FilesByName)
+    → IsRefused effect why → after ≡ before → Ends effect old old before after (end_of_refused why)
+refused_ends effect NoMemory old before after is same = no_memory_ends effect old before after same
+refused_ends effect (Unread name) old before after is same = unread_ends effect name.now old before after same
   where
-    unread_ends : (outcome : Outcome) (name : List ℕ) (old : Option (List ℕ)) (before after : Option Contents)
-        → after ≡ before → Ends outcome old old before after (unread name)
+    unread_ends : (effect : Effect) (name : List ℕ) (old : Option (List ℕ)) (before after : Option FilesByName)
+        → after ≡ before → Ends effect old old before after (unread name)
     unread_ends (prints text) name old before after same = record { is_end = tt; printed = keeps_same old; left = same }
     unread_ends (puts n bytes text) name old before after same = record { is_end = tt; printed = keeps_same old; left = same }
     unread_ends (refuses refusal) name old before after same = record { is_end = tt; printed = keeps_same old; left = same }
     unread_ends (exceeds n) name old before after same = record { is_end = tt; printed = keeps_same old; left = same }
     unread_ends (misses n) name old before after same = record { is_end = tt; printed = keeps_same old; left = same }
     unread_ends depends name old before after same = record { is_end = tt; printed = keeps_same old; left = same }
-refused_ends outcome (Because refusal) old before after (inl is) same = rw is (record { is_end = refl; printed = keeps_same old; left = same })
-refused_ends outcome (Because refusal) old before after (inr is) same = rw is (record { is_end = tt; printed = keeps_same old; left = same })
-refused_ends outcome (Exceeded name) old before after (inl is) same = rw is (record { is_end = refl; printed = keeps_same old; left = same })
-refused_ends outcome (Exceeded name) old before after (inr is) same = rw is (record { is_end = tt; printed = keeps_same old; left = same })
+refused_ends effect (Because refusal) old before after (inl is) same = rw is (record { is_end = refl; printed = keeps_same old; left = same })
+refused_ends effect (Because refusal) old before after (inr is) same = rw is (record { is_end = tt; printed = keeps_same old; left = same })
+refused_ends effect (Exceeded name) old before after (inl is) same = rw is (record { is_end = refl; printed = keeps_same old; left = same })
+refused_ends effect (Exceeded name) old before after (inr is) same = rw is (record { is_end = tt; printed = keeps_same old; left = same })
 
 -- the cause of a refusal
-pub refused_cause : (request : Request) (files : Option Contents) (before after : Counts) (why : Refused)
+pub refused_cause : (request : Request) (files : Option FilesByName) (before after : Counts) (why : Refused)
     → IsUnread (ReadsFile (Some request) files) before.takes after.takes why → HasCause (Some request) files before after (end_of_refused why)
 refused_cause request files before after NoMemory is = tt
 refused_cause request files before after (Because refusal) is = λ same. absurd (is same)
@@ -214,9 +201,9 @@ refused_cause request files before after (Unread name) is = is
 refused_cause request files before after (Exceeded name) is = is
 
 -- what is shown of a request holds of the words that are it
-pub ends_for : (asked : Option Request) (it : Request) (files after : Option Contents) (read : Result Log LogFault) (query : Result Query ParseFault) (old new : Option (List ℕ)) (end : End)
+pub ends_for : (asked : Option Request) (it : Request) (files after : Option FilesByName) (read : Result Log LogFault) (query : Result Query ParseFault) (old new : Option (List ℕ)) (end : End)
     → Some it ≡ asked
-    → (AreReadingsOf it files read query → Ends (outcome_for (Some it) files read query) old new files after end)
-    → AreReadings asked files read query → Ends (outcome_for asked files read query) old new files after end
+    → (AreReadingsOf it files read query → Ends (effect_for (Some it) files read query) old new files after end)
+    → AreReadings asked files read query → Ends (effect_for asked files read query) old new files after end
 ends_for asked it files after read query old new end same ends readings =
-    subst (λ (a : Option Request). AreReadings a files read query → Ends (outcome_for a files read query) old new files after end) same ends readings
+    subst (λ (a : Option Request). AreReadings a files read query → Ends (effect_for a files read query) old new files after end) same ends readings

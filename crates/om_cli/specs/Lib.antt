@@ -1,10 +1,10 @@
 pub mod Answer
 pub mod Asked
 pub mod Columns
-pub mod Ends
+pub mod Command
+pub mod Ending
 pub mod Lines
 pub mod Named
-pub mod Outcome
 pub mod Readings
 pub mod Reads
 pub mod Result

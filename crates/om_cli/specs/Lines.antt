@@ -60,7 +60,7 @@ word_of part.Query = codes "query"
 abbrev pub overlap_words : (a b : ℕ) → List ℕ
 overlap_words a b = codes "overlap " ++ decimal a ++ codes " " ++ decimal b
 
--- the words for two regions that have no room
+-- the words for the places of two regions that share an address, or twice that of a heap that passes the last one
 abbrev pub room_words : (a b : ℕ) → List ℕ
 room_words a b = codes "no room " ++ decimal a ++ codes " " ++ decimal b
 

@@ -1,7 +1,7 @@
 -- What reading one file answers, and what the parts of the program answer above it.
 use Rattle.std.specs.Prelude.{◌≡◌, ◌≢◌, ℕ, ◌<◌, slice_index, ◌⊎◌, List, Option, Some, None, Result, Ok, Err}
 use Rattle.om_io.specs.Counts.{Rose}
-use Rattle.om_io.specs.Shelf.{Contents}
+use Rattle.om_io.specs.Shelf.{FilesByName}
 use Rattle.om_elf.specs.declared.fault.ElfFault.{ElfFault}
 use Rattle.om_elf.specs.declared.fault.ElfFault.TheVariants as elf
 use Rattle.om_log.specs.declared.fault.LogFault.{LogFault}
@@ -12,7 +12,7 @@ use Rattle.om_parse.specs.declared.tree.Query.{Query}
 use Rattle.om_record.specs.declared.recorded.Recorded.{Recorded}
 use Rattle.om_record.specs.declared.recorded.RecordFault.{RecordFault}
 use Rattle.om_record.specs.declared.recorded.RecordFault.TheVariants as recorder
-use Rattle.om_cli.specs.Outcome.{Request, queries, records, Outcome, Seen, found, longer, untold, prints, puts, refuses, exceeds, depends, refused_elf, seen_in, summary}
+use Rattle.om_cli.specs.Command.{Request, queries, records, Effect, Seen, found, longer, untold, prints, puts, refuses, exceeds, depends, refused_elf, seen_in, summary}
 use Rattle.om_cli.specs.Lines.{End, refused, no_memory, unread, exceeded}
 use Rattle.om_cli.specs.Readings.{IsLogReading, IsQueryReading}
 use Rattle.om_cli.specs.declared.refusal.Refusal.{Refusal}
@@ -30,53 +30,53 @@ abbrev pub Reads : Seen → List ℕ → (before now : ℕ) → Result (List ℕ
 Reads seen name before now (Ok bytes) = IsMet seen bytes
 Reads seen name before now (Err NoMemory) = Unit {0}
 Reads seen name before now (Err (Because refusal)) = ⊥
-Reads seen name before now (Err (Unread told)) = (told.now ≡ name) × Rose before now
-Reads seen name before now (Err (Exceeded told)) = (told.now ≡ name) × ((seen ≡ longer) ⊎ (seen ≡ untold))
+Reads seen name before now (Err (Unread file)) = (file.now ≡ name) × Rose before now
+Reads seen name before now (Err (Exceeded file)) = (file.now ≡ name) × ((seen ≡ longer) ⊎ (seen ≡ untold))
 
 -- the log and the query are read so, where the bytes of the log are seen, and are bytes
-abbrev pub AreReadingsOf : Request → Option Contents → Result Log LogFault → Result Query ParseFault → Type 0
+abbrev pub AreReadingsOf : Request → Option FilesByName → Result Log LogFault → Result Query ParseFault → Type 0
 AreReadingsOf (queries exe log sql) files read query =
     ((bytes : List ℕ) → seen_in files log ≡ found bytes → ((i : ℕ) → slice_index bytes i < 256) → IsLogReading bytes read)
     × IsQueryReading sql query
 AreReadingsOf (records exe input log) files read query = Unit {0}
 
-abbrev pub AreReadings : Option Request → Option Contents → Result Log LogFault → Result Query ParseFault → Type 0
+abbrev pub AreReadings : Option Request → Option FilesByName → Result Log LogFault → Result Query ParseFault → Type 0
 AreReadings None files read query = Unit {0}
 AreReadings (Some request) files read query = AreReadingsOf request files read query
 
 -- the answer is the text of what a query comes to, its refusal, or want of memory
-abbrev pub GivesText : Outcome → Result (List ℕ) Refused → Type 0
-GivesText outcome (Ok text) = outcome ≡ prints text
-GivesText outcome (Err NoMemory) = Unit {0}
-GivesText outcome (Err (Because refusal)) = outcome ≡ refuses refusal
-GivesText outcome (Err (Unread name)) = ⊥
-GivesText outcome (Err (Exceeded name)) = ⊥
+abbrev pub GivesText : Effect → Result (List ℕ) Refused → Type 0
+GivesText effect (Ok text) = effect ≡ prints text
+GivesText effect (Err NoMemory) = Unit {0}
+GivesText effect (Err (Because refusal)) = effect ≡ refuses refusal
+GivesText effect (Err (Unread name)) = ⊥
+GivesText effect (Err (Exceeded name)) = ⊥
 
 -- the answer is the log of what a recording under a name comes to, its refusal, or want of memory
-abbrev pub GivesLog : Outcome → List ℕ → Result Recorded Refused → Type 0
-GivesLog outcome name (Ok recorded) = outcome ≡ puts name recorded.bytes (summary recorded)
-GivesLog outcome name (Err NoMemory) = Unit {0}
-GivesLog outcome name (Err (Because refusal)) = outcome ≡ refuses refusal
-GivesLog outcome name (Err (Unread told)) = ⊥
-GivesLog outcome name (Err (Exceeded told)) = ⊥
+abbrev pub GivesLog : Effect → List ℕ → Result Recorded Refused → Type 0
+GivesLog effect name (Ok recorded) = effect ≡ puts name recorded.bytes (summary recorded)
+GivesLog effect name (Err NoMemory) = Unit {0}
+GivesLog effect name (Err (Because refusal)) = effect ≡ refuses refusal
+GivesLog effect name (Err (Unread file)) = ⊥
+GivesLog effect name (Err (Exceeded file)) = ⊥
 
 -- a command is refused for something that it comes to
-abbrev pub IsRefused : Outcome → Refused → Type 0
-IsRefused outcome NoMemory = Unit {0}
-IsRefused outcome (Because refusal) = (outcome ≡ refuses refusal) ⊎ (outcome ≡ depends)
-IsRefused outcome (Unread name) = Unit {0}
-IsRefused outcome (Exceeded name) = (outcome ≡ exceeds name.now) ⊎ (outcome ≡ depends)
+abbrev pub IsRefused : Effect → Refused → Type 0
+IsRefused effect NoMemory = Unit {0}
+IsRefused effect (Because refusal) = (effect ≡ refuses refusal) ⊎ (effect ≡ depends)
+IsRefused effect (Unread name) = Unit {0}
+IsRefused effect (Exceeded name) = (effect ≡ exceeds name.now) ⊎ (effect ≡ depends)
 
 -- the answer is a text or a refusal of what a query comes to
-abbrev pub AnswersText : Outcome → Result (List ℕ) Refused → Type 0
-AnswersText outcome (Ok text) = (outcome ≡ prints text) ⊎ (outcome ≡ depends)
-AnswersText outcome (Err why) = IsRefused outcome why
+abbrev pub AnswersText : Effect → Result (List ℕ) Refused → Type 0
+AnswersText effect (Ok text) = (effect ≡ prints text) ⊎ (effect ≡ depends)
+AnswersText effect (Err why) = IsRefused effect why
 
 -- the answer is a log or a refusal of what a recording under a name comes to
-abbrev pub AnswersLog : Outcome → List ℕ → Result Recorded Refused → Type 0
-AnswersLog outcome name (Ok recorded) =
-    (outcome ≡ puts name recorded.bytes (summary recorded)) ⊎ (outcome ≡ depends)
-AnswersLog outcome name (Err why) = IsRefused outcome why
+abbrev pub AnswersLog : Effect → List ℕ → Result Recorded Refused → Type 0
+AnswersLog effect name (Ok recorded) =
+    (effect ≡ puts name recorded.bytes (summary recorded)) ⊎ (effect ≡ depends)
+AnswersLog effect name (Err why) = IsRefused effect why
 
 -- the refusal is one of a request: not that the words are none
 abbrev pub IsOfRequest : Refusal → Type 0
@@ -89,12 +89,12 @@ IsUnread comes before now (Because why) = IsOfRequest why
 IsUnread comes before now (Unread name) = comes name.now × Rose (before name.now) (now name.now)
 IsUnread comes before now (Exceeded name) = comes name.now
 
--- no file is refused, and the refusal is one of a request
-abbrev pub HasRead : Refused → Type 0
-HasRead NoMemory = Unit {0}
-HasRead (Because why) = IsOfRequest why
-HasRead (Unread name) = ⊥
-HasRead (Exceeded name) = ⊥
+-- refused after both files were read: for neither of them, and as a request
+abbrev pub IsAfterReads : Refused → Type 0
+IsAfterReads NoMemory = Unit {0}
+IsAfterReads (Because why) = IsOfRequest why
+IsAfterReads (Unread name) = ⊥
+IsAfterReads (Exceeded name) = ⊥
 
 -- what a fault of an executable comes to: want of memory, or a refusal
 abbrev pub refused_by_elf : ElfFault → Refused
@@ -111,11 +111,6 @@ abbrev pub refused_by_recorder : RecordFault → Refused
 refused_by_recorder recorder.NoMemory = NoMemory
 refused_by_recorder (recorder.TooLong step) = Because (refusal.LogTooLong step)
 refused_by_recorder (recorder.NoRoom a b) = Because (refusal.NoRoom a b)
-
--- what a recorder's answer comes to
-abbrev pub told_by_recorder : Result Recorded RecordFault → Result Recorded Refused
-told_by_recorder (Ok recorded) = Ok recorded
-told_by_recorder (Err fault) = Err (refused_by_recorder fault)
 
 -- how a command ends that is refused
 abbrev pub end_of_refused : Refused → End

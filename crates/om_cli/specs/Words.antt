@@ -1,5 +1,5 @@
 -- The request that the code's value stands for.
-use Rattle.om_cli.specs.Outcome.{Request, queries, records}
+use Rattle.om_cli.specs.Command.{Request, queries, records}
 use Rattle.om_cli.specs.declared.words.Request.{Request as Words}
 use Rattle.om_cli.specs.declared.words.Request.TheVariants.{Query, Record}
 

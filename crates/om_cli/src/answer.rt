@@ -2,11 +2,11 @@
 
 ghost use Rattle.std.specs.Prelude.{◌≡◌, ◌<◌, ℕ, Result, IfErr, IfOk, IfSome, slice_index};
 ghost use Rattle.om_cli.specs.Named.{IsNamed};
-ghost use Rattle.om_cli.specs.Outcome as spec;
-ghost use Rattle.om_cli.specs.Outcome.{judged, judged_overlap, judged_run};
+ghost use Rattle.om_cli.specs.Command as spec;
+ghost use Rattle.om_cli.specs.Command.{judged, judged_overlap, judged_run};
 ghost use Rattle.om_cli.specs.Readings.{IsLogReading, IsQueryReading};
 ghost use Rattle.om_cli.specs.Reads as reads;
-ghost use Rattle.om_cli.specs.Reads.{GivesText, HasRead};
+ghost use Rattle.om_cli.specs.Reads.{GivesText, IsAfterReads};
 ghost use Rattle.om_elf.specs.Image.{AreLoadable};
 ghost use Rattle.om_log.specs.Grammar.{IsLawfulLog};
 ghost use Rattle.om_log.specs.declared.fault.LogFault.{LogFault};
@@ -17,6 +17,7 @@ ghost use Rattle.om_mem.specs.Contents.{overlap_of};
 ghost use Rattle.om_step.specs.First.{regions_of};
 
 use crate::asked::{Question, question_of};
+use crate::limits::MOST_STEPS;
 use crate::refusal::{Part, Refusal};
 use crate::refused::Refused;
 use crate::rows::{Stopped, rows_of};
@@ -28,9 +29,6 @@ use om_run::Replay;
 use om_step::MapFault;
 use om_table::{Style, Table, TableFault, print_table};
 use std::alloc::Global;
-
-/// The greatest number of steps that are replayed.
-const MOST_STEPS: u64 = 4_000_000;
 
 /// The question that a text is; none where it is none that is built.
 fn read_question(alloc: Global, sql: &[u8]) -> Result<Option<Question>, NoMemory>
@@ -54,7 +52,7 @@ fn answer_run<'a>(
     requires first { replay.old.step ≡ 0 }
     requires named { IsNamed question }
     ensures text { GivesText (judged_run replay.old.entries replay.old.first question) result }
-    ensures read { IfErr result HasRead }
+    ensures read { IfErr result IsAfterReads }
 {
     let steps = replay.last();
     if steps > MOST_STEPS {
@@ -86,7 +84,7 @@ fn answer_query<'a>(
 ) -> Result<Text, Refused<'a>>
     requires loadable { AreLoadable elf.now.segments }
     requires lawful { IsLawfulLog log.now }
-    ensures read { IfErr result HasRead }
+    ensures read { IfErr result IsAfterReads }
     ensures text { (query : Result Query ParseFault) → IsQueryReading sql.now query
         → GivesText (judged_overlap (overlap_of (regions_of elf.now.segments log.now.start)) elf.now log.now (spec.question_of query)) result }
 {
@@ -105,7 +103,7 @@ fn answer_query<'a>(
 /// What a fault of an executable comes to.
 pub fn refused_by_elf<'a>(fault: ElfFault) -> Refused<'a>
     ensures refused { result ≡ reads.refused_by_elf fault }
-    ensures read { HasRead result }
+    ensures read { IsAfterReads result }
 {
     match fault {
         ElfFault::NoMemory => Refused::NoMemory,
@@ -117,7 +115,7 @@ pub fn refused_by_elf<'a>(fault: ElfFault) -> Refused<'a>
 /// What a fault of a log comes to.
 fn refused_by<'a>(fault: LogFault) -> Refused<'a>
     ensures refused { result ≡ reads.refused_by fault }
-    ensures read { HasRead result }
+    ensures read { IsAfterReads result }
 {
     match fault {
         LogFault::NoMemory => Refused::NoMemory,
@@ -126,14 +124,14 @@ fn refused_by<'a>(fault: LogFault) -> Refused<'a>
 }
 
 /// The text of the answer, where the parts are judged in the order executable, log, query, run.
-#[tactic(auto, unfolding(crate::specs::Outcome::judged))]
+#[tactic(auto, unfolding(crate::specs::Command::judged))]
 pub fn answer_text<'a>(
     alloc: Global,
     exe: &[u8],
     log: &[u8],
     sql: &[u8],
 ) -> Result<Text, Refused<'a>>
-    ensures read { IfErr result HasRead }
+    ensures read { IfErr result IsAfterReads }
     ensures bytes { (i : ℕ) → slice_index log.now i < 256 }
     ensures text { (log_read : Result Log LogFault) (query : Result Query ParseFault) → IsLogReading log.now log_read
         → IsQueryReading sql.now query → GivesText (judged exe.now log_read query) result }

@@ -1,7 +1,7 @@
 //! How the program ends: its status, and the line that it tells on standard error.
 
 ghost use Rattle.std.specs.Prelude.{◌≡◌, [], ◌∷◌, ◌++◌, codes};
-ghost use Rattle.om_cli.specs.Ends.{end_of};
+ghost use Rattle.om_cli.specs.Ending.{end_meant};
 ghost use Rattle.om_cli.specs.Lines.{line_of, status_of};
 ghost use Rattle.om_table.specs.Escape.{escaped};
 ghost use Rattle.om_io.specs.Writing.{Puts, Tells};
@@ -50,7 +50,7 @@ fn put_name<P: Sink>(sink: &mut P, before: &[u8], name: &str, after: &[u8]) -> R
 impl Ending<'_> {
     /// The exit status.
     pub fn status(&self) -> u8
-        ensures { result ≡ status_of (end_of self.now) }
+        ensures { result ≡ status_of (end_meant self.now) }
     {
         match self {
             Ending::Done => 0,
@@ -66,7 +66,7 @@ impl Ending<'_> {
     #[tactic(auto, unfolding(crate::specs::Lines::line_of))]
     fn put<P: Sink>(&self, sink: &mut P) -> Result<(), SinkFail>
         ensures { Puts (P.written sink.old) (P.written sink.new) (P.faults sink.old) (P.faults sink.new)
-            (P.refused_growths sink.old) (P.refused_growths sink.new) (line_of (end_of self.now)) result }
+            (P.refused_growths sink.old) (P.refused_growths sink.new) (line_of (end_meant self.now)) result }
     {
         match self {
             Ending::Done => put_all(sink, b""),
@@ -88,7 +88,7 @@ impl Ending<'_> {
     #[tactic(auto, using(om_io::proofs::PutsLemmas::puts_tells))]
     pub fn tell<P: Sink>(&self, sink: &mut P)
         ensures { Tells (P.written sink.old) (P.written sink.new) (P.faults sink.old) (P.faults sink.new)
-            (P.refused_growths sink.old) (P.refused_growths sink.new) (line_of (end_of self.now)) }
+            (P.refused_growths sink.old) (P.refused_growths sink.new) (line_of (end_meant self.now)) }
     {
         let _ = self.put(sink);
     }

@@ -7,6 +7,7 @@ mod columns;
 mod ending;
 mod escaping;
 mod laws;
+mod limits;
 mod lines;
 mod program;
 mod reading;

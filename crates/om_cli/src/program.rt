@@ -1,11 +1,11 @@
 //! All that the program does, over a shelf and two sinks.
 
 ghost use Rattle.std.specs.Prelude.{◌≡◌, Result, IfErr, Some, None, List, ℕ, map, string_bytes};
-ghost use Rattle.om_cli.specs.Ends.{end_of};
+ghost use Rattle.om_cli.specs.Ending.{end_meant};
 ghost use Rattle.om_cli.specs.Lines.{End, line_of, status_of};
-ghost use Rattle.om_cli.specs.Outcome.{file_put, outcome_for, outcome_of, queries, records, request_of};
-ghost use Rattle.om_cli.specs.Outcome as spec;
-ghost use Rattle.om_cli.specs.Outcome.{puts};
+ghost use Rattle.om_cli.specs.Command.{file_put, effect_for, effect_of, queries, records, request_of};
+ghost use Rattle.om_cli.specs.Command as spec;
+ghost use Rattle.om_cli.specs.Command.{puts};
 ghost use Rattle.om_cli.specs.Reads.{AnswersLog, AnswersText, AreReadings, AreReadingsOf, IsUnread};
 ghost use Rattle.om_cli.specs.Result.{Ends, HasCause, IsPutCause, IsSilent, ReadsFile, ReadsPair};
 ghost use Rattle.om_cli.specs.Words.{asked_by};
@@ -38,7 +38,7 @@ fn text_of<'a, F: Shelf>(
 ) -> Result<Text, Refused<'a>>
     ensures text { (read : Result Log LogFault) (query : Result Query ParseFault)
         → AreReadingsOf (queries exe.now log.now sql.now) (F.told shelf.old) read query
-        → AnswersText (outcome_for (Some (queries exe.now log.now sql.now)) (F.told shelf.old) read query) result }
+        → AnswersText (effect_for (Some (queries exe.now log.now sql.now)) (F.told shelf.old) read query) result }
     ensures cause { IfErr result (IsUnread (ReadsFile (Some (queries exe.now log.now sql.now)) (F.told shelf.old))
         (F.failed_takes shelf.old) (F.failed_takes shelf.new)) }
     ensures told { F.told shelf.new ≡ F.told shelf.old }
@@ -62,7 +62,7 @@ fn log_of<'a, F: Shelf>(
     input: &'a str,
 ) -> Result<Recorded, Refused<'a>>
     ensures log { (name : List ℕ) (read : Result Log LogFault) (query : Result Query ParseFault)
-        → AnswersLog (outcome_for (Some (records exe.now input.now name)) (F.told shelf.old) read query) name result }
+        → AnswersLog (effect_for (Some (records exe.now input.now name)) (F.told shelf.old) read query) name result }
     ensures cause { IfErr result (IsUnread (ReadsPair exe.now input.now (F.told shelf.old))
         (F.failed_takes shelf.old) (F.failed_takes shelf.new)) }
     ensures told { F.told shelf.new ≡ F.told shelf.old }
@@ -90,14 +90,14 @@ fn query<'a, F: Shelf, O: Sink>(
 ) -> Ending<'a>
     ensures ends { (read : Result Log LogFault) (query : Result Query ParseFault)
         → AreReadingsOf (queries exe.now log.now sql.now) (F.told shelf.old) read query
-        → Ends (outcome_for (Some (queries exe.now log.now sql.now)) (F.told shelf.old) read query)
-        (O.written out.old) (O.written out.new) (F.told shelf.old) (F.told shelf.new) (end_of result) }
+        → Ends (effect_for (Some (queries exe.now log.now sql.now)) (F.told shelf.old) read query)
+        (O.written out.old) (O.written out.new) (F.told shelf.old) (F.told shelf.new) (end_meant result) }
     ensures cause { HasCause (Some (queries exe.now log.now sql.now)) (F.told shelf.old)
         (record { takes = F.failed_takes shelf.old; puts = F.failed_puts shelf.old; faults = O.faults out.old })
         (record { takes = F.failed_takes shelf.new; puts = F.failed_puts shelf.new; faults = O.faults out.new })
-        (end_of result) }
+        (end_meant result) }
     ensures told { F.told shelf.new ≡ F.told shelf.old }
-    ensures silent { IsSilent (end_of result) → out.new ≡ out.old }
+    ensures silent { IsSilent (end_meant result) → out.new ≡ out.old }
 {
     let text = match text_of(alloc, shelf, exe, log, sql) {
         Ok(text) => text,
@@ -119,12 +119,12 @@ fn put_log<'a, F: Shelf, O: Sink>(
     recorded: &Recorded,
 ) -> Ending<'a>
     ensures ends { Ends (puts name.now recorded.now.bytes (spec.summary recorded.now))
-        (O.written out.old) (O.written out.new) (F.told shelf.old) (F.told shelf.new) (end_of result) }
+        (O.written out.old) (O.written out.new) (F.told shelf.old) (F.told shelf.new) (end_meant result) }
     ensures causes { IsPutCause name.now
         (record { takes = F.failed_takes shelf.old; puts = F.failed_puts shelf.old; faults = O.faults out.old })
         (record { takes = F.failed_takes shelf.new; puts = F.failed_puts shelf.new; faults = O.faults out.new })
-        (end_of result) }
-    ensures silent { IsSilent (end_of result) → out.new ≡ out.old }
+        (end_meant result) }
+    ensures silent { IsSilent (end_meant result) → out.new ≡ out.old }
 {
     let text = match summary(alloc, recorded) {
         Ok(text) => text,
@@ -152,13 +152,13 @@ fn record<'a, F: Shelf, O: Sink>(
     log: &'a str,
 ) -> Ending<'a>
     ensures ends { (read : Result Log LogFault) (query : Result Query ParseFault)
-        → Ends (outcome_for (Some (records exe.now input.now log.now)) (F.told shelf.old) read query)
-        (O.written out.old) (O.written out.new) (F.told shelf.old) (F.told shelf.new) (end_of result) }
+        → Ends (effect_for (Some (records exe.now input.now log.now)) (F.told shelf.old) read query)
+        (O.written out.old) (O.written out.new) (F.told shelf.old) (F.told shelf.new) (end_meant result) }
     ensures cause { HasCause (Some (records exe.now input.now log.now)) (F.told shelf.old)
         (record { takes = F.failed_takes shelf.old; puts = F.failed_puts shelf.old; faults = O.faults out.old })
         (record { takes = F.failed_takes shelf.new; puts = F.failed_puts shelf.new; faults = O.faults out.new })
-        (end_of result) }
-    ensures silent { IsSilent (end_of result) → out.new ≡ out.old }
+        (end_meant result) }
+    ensures silent { IsSilent (end_meant result) → out.new ≡ out.old }
 {
     match log_of(alloc, shelf, exe, input) {
         Ok(recorded) => put_log(alloc, shelf, out, log, &recorded),
@@ -175,14 +175,14 @@ fn serve<'a, F: Shelf, O: Sink>(
 ) -> Ending<'a>
     ensures ends { (read : Result Log LogFault) (query : Result Query ParseFault)
         → AreReadingsOf (asked_by request.now) (F.told shelf.old) read query
-        → Ends (outcome_for (Some (asked_by request.now)) (F.told shelf.old) read query)
-        (O.written out.old) (O.written out.new) (F.told shelf.old) (F.told shelf.new) (end_of result) }
+        → Ends (effect_for (Some (asked_by request.now)) (F.told shelf.old) read query)
+        (O.written out.old) (O.written out.new) (F.told shelf.old) (F.told shelf.new) (end_meant result) }
     ensures cause { HasCause (Some (asked_by request.now)) (F.told shelf.old)
         (record { takes = F.failed_takes shelf.old; puts = F.failed_puts shelf.old; faults = O.faults out.old })
         (record { takes = F.failed_takes shelf.new; puts = F.failed_puts shelf.new; faults = O.faults out.new })
-        (end_of result) }
+        (end_meant result) }
     ensures told { file_put (Some (asked_by request.now)) ≡ None → F.told shelf.new ≡ F.told shelf.old }
-    ensures silent { IsSilent (end_of result) → out.new ≡ out.old }
+    ensures silent { IsSilent (end_meant result) → out.new ≡ out.old }
 {
     match request {
         Request::Query { exe, log, sql } => query(alloc, shelf, out, exe, log, sql),
@@ -199,14 +199,14 @@ fn run<'a, F: Shelf, O: Sink>(
 ) -> Ending<'a>
     ensures ends { (read : Result Log LogFault) (query : Result Query ParseFault)
         → AreReadings (request_of (map string_bytes words.now.items)) (F.told shelf.old) read query
-        → Ends (outcome_of (map string_bytes words.now.items) (F.told shelf.old) read query)
-        (O.written out.old) (O.written out.new) (F.told shelf.old) (F.told shelf.new) (end_of result) }
+        → Ends (effect_of (map string_bytes words.now.items) (F.told shelf.old) read query)
+        (O.written out.old) (O.written out.new) (F.told shelf.old) (F.told shelf.new) (end_meant result) }
     ensures cause { HasCause (request_of (map string_bytes words.now.items)) (F.told shelf.old)
         (record { takes = F.failed_takes shelf.old; puts = F.failed_puts shelf.old; faults = O.faults out.old })
         (record { takes = F.failed_takes shelf.new; puts = F.failed_puts shelf.new; faults = O.faults out.new })
-        (end_of result) }
+        (end_meant result) }
     ensures told { file_put (request_of (map string_bytes words.now.items)) ≡ None → F.told shelf.new ≡ F.told shelf.old }
-    ensures silent { IsSilent (end_of result) → out.new ≡ out.old }
+    ensures silent { IsSilent (end_meant result) → out.new ≡ out.old }
 {
     match read_words(words) {
         Some(request) => serve(alloc, shelf, out, &request),
@@ -227,7 +227,7 @@ pub fn omni<F: Shelf, O: Sink, P: Sink>(
     ensures ends { (end : End) × (result ≡ status_of end)
         × ((read : Result Log LogFault) (query : Result Query ParseFault)
         → AreReadings (request_of (map string_bytes words.now.items)) (F.told shelf.old) read query
-        → Ends (outcome_of (map string_bytes words.now.items) (F.told shelf.old) read query)
+        → Ends (effect_of (map string_bytes words.now.items) (F.told shelf.old) read query)
         (O.written out.old) (O.written out.new) (F.told shelf.old) (F.told shelf.new) end)
         × HasCause (request_of (map string_bytes words.now.items)) (F.told shelf.old)
         (record { takes = F.failed_takes shelf.old; puts = F.failed_puts shelf.old; faults = O.faults out.old })

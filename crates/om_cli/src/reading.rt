@@ -1,17 +1,14 @@
 //! Reads the files of a command.
 
 ghost use Rattle.std.specs.Prelude.{◌≡◌, IfOk, IfErr};
-ghost use Rattle.om_cli.specs.Outcome.{Request, first_file, second_file, seen_in};
+ghost use Rattle.om_cli.specs.Command.{Request, first_file, second_file, seen_in};
 ghost use Rattle.om_cli.specs.Reads.{IsMet, IsUnread, Reads};
 ghost use Rattle.om_io.specs.Shelf.{NoneFalls};
 
 use crate::refused::Refused;
-use om_base::Bytes;
+use om_base::{Bytes, MOST_BYTES};
 use om_io::{Shelf, ShelfFail, Taken};
 use std::alloc::Global;
-
-/// The greatest number of bytes of a file that is read.
-const MOST_BYTES: u64 = 67_108_864;
 
 /// The bytes of the file of that name.
 pub fn read_file<'a, F: Shelf>(

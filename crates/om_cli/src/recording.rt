@@ -1,12 +1,13 @@
 //! Records a run over the bytes of an executable and of an input.
 
 ghost use Rattle.std.specs.Prelude.{◌≡◌, ◌++◌, List, ℕ, IfErr, IfOk, codes};
-ghost use Rattle.om_cli.specs.Outcome as spec;
-ghost use Rattle.om_cli.specs.Outcome.{cause_word, recorded_run};
+ghost use Rattle.om_cli.specs.Command as spec;
+ghost use Rattle.om_cli.specs.Command.{cause_word, recorded_run};
 ghost use Rattle.om_cli.specs.Reads as reads;
-ghost use Rattle.om_cli.specs.Reads.{GivesLog, HasRead};
+ghost use Rattle.om_cli.specs.Reads.{GivesLog, IsAfterReads};
 
 use crate::answer::refused_by_elf;
+use crate::limits::MOST_STEPS;
 use crate::refusal::Refusal;
 use crate::refused::Refused;
 use itoa::Buffer;
@@ -15,13 +16,10 @@ use om_elf::read_elf;
 use om_record::{RecordFault, Recorded, make_log};
 use std::alloc::Global;
 
-/// The greatest number of steps that are recorded.
-const MOST_STEPS: u64 = 4_000_000;
-
 /// What a fault of recording comes to.
 fn refused_by_recorder<'a>(fault: RecordFault) -> Refused<'a>
     ensures refused { result ≡ reads.refused_by_recorder fault }
-    ensures read { HasRead result }
+    ensures read { IsAfterReads result }
 {
     match fault {
         RecordFault::NoMemory => Refused::NoMemory,
@@ -31,9 +29,9 @@ fn refused_by_recorder<'a>(fault: RecordFault) -> Refused<'a>
 }
 
 /// The log of the run of an executable with an input.
-#[tactic(auto, unfolding(crate::specs::Outcome::recorded_run))]
+#[tactic(auto, unfolding(crate::specs::Command::recorded_run))]
 pub fn record_run<'a>(alloc: Global, exe: &[u8], input: &[u8]) -> Result<Recorded, Refused<'a>>
-    ensures read { IfErr result HasRead }
+    ensures read { IfErr result IsAfterReads }
     ensures log { (name : List ℕ) → GivesLog (recorded_run exe.now input.now name) name result }
 {
     let elf = match read_elf(alloc, exe) {

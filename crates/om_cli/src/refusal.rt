@@ -47,7 +47,7 @@ pub enum Refusal {
     },
     /// The log that is made would be longer than a log that is read may be.
     LogTooLong {
-        /// The first step whose entries are too many.
+        /// The first step with whose entries it would be longer.
         step: u64,
     },
     /// The run departs from its log.

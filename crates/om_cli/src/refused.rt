@@ -1,7 +1,7 @@
 //! Why a command comes to no answer.
 
 ghost use Rattle.std.specs.Prelude.{◌≡◌};
-ghost use Rattle.om_cli.specs.Ends.{end_of};
+ghost use Rattle.om_cli.specs.Ending.{end_meant};
 ghost use Rattle.om_cli.specs.Reads.{end_of_refused};
 
 use crate::ending::Ending;
@@ -24,7 +24,7 @@ pub enum Refused<'a> {
 impl<'a> Refused<'a> {
     /// How the command ends.
     pub fn ending(&self) -> Ending<'a>
-        ensures { end_of result ≡ end_of_refused self.now }
+        ensures { end_meant result ≡ end_of_refused self.now }
     {
         match self {
             Refused::NoMemory => Ending::NoMemory,

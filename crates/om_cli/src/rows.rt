@@ -1,9 +1,9 @@
 //! The rows of an answer: a replay that looks at each state.
 
 ghost use Rattle.std.specs.Prelude.{◌≡◌, ◌≤◌, ◌++◌, map, IfOk, OnOk};
-ghost use Rattle.om_cli.specs.Answer.{noted, row_at};
+ghost use Rattle.om_cli.specs.Command.{most_steps};
 ghost use Rattle.om_cli.specs.View.{row_of};
-ghost use Rattle.om_cli.specs.Rows.{GivesRows, stopped};
+ghost use Rattle.om_cli.specs.Rows.{GivesRows, noted, row_at, stopped};
 ghost use Rattle.om_eval.specs.Meaning.{cell_at, owned};
 ghost use Rattle.om_run.specs.Run.{end_of};
 
@@ -105,7 +105,7 @@ pub fn rows_of(
     question: &Question,
 ) -> Result<Items<Items<Owned>>, Stopped>
     requires first { replay.old.step ≡ 0 }
-    requires few { (end_of replay.old.entries).step ≤ 4000000 }
+    requires few { (end_of replay.old.entries).step ≤ most_steps }
     ensures { GivesRows replay.old.entries replay.old.first question.now result }
 {
     let mut meter = StepMeter::new();

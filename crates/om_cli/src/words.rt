@@ -2,7 +2,7 @@
 
 ghost use Rattle.std.specs.Prelude.{◌≡◌, map, string_bytes};
 ghost use Rattle.std.specs.Option.{option_map};
-ghost use Rattle.om_cli.specs.Outcome.{request_of};
+ghost use Rattle.om_cli.specs.Command.{request_of};
 ghost use Rattle.om_cli.specs.Words.{asked_by};
 
 /// What the words ask for.

@@ -1,5 +1,5 @@
 use Rattle.std.proofs.Common.{subst, Err}
-use Rattle.om_cli.specs.Outcome.{records, seen_in}
+use Rattle.om_cli.specs.Command.{records, seen_in}
 use Rattle.om_cli.specs.Reads.{Reads}
 use Rattle.om_cli.proofs.AnswerLemmas.{read_all, log_given, unread_first, unread_second}
 use Rattle.om_cli.proofs.program.log_of.Goals as goal

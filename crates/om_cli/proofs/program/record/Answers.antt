@@ -1,5 +1,5 @@
 use Rattle.std.proofs.Common.{Some}
-use Rattle.om_cli.specs.Outcome.{outcome_for, records}
+use Rattle.om_cli.specs.Command.{effect_for, records}
 use Rattle.om_cli.proofs.AnswerLemmas.{refused_cause, refused_ends}
 use Rattle.om_cli.proofs.program.record.Goals as goal
 
@@ -7,7 +7,7 @@ pub returns-in-Err-clause-ends : goal.returns-in-Err-clause-ends
 returns-in-Err-clause-ends g c =
     λ read query.
     rw c.ending.ensures
-    (refused_ends (outcome_for (Some (records c.args.exe.now c.args.input.now c.args.log.now)) (g.F.Shelf.told c.args.shelf.now) read query) c.in-Err.refused (g.O.Sink.written c.args.out.now) (g.F.Shelf.told c.args.shelf.now) (g.F.Shelf.told c.log_of.new.shelf)
+    (refused_ends (effect_for (Some (records c.args.exe.now c.args.input.now c.args.log.now)) (g.F.Shelf.told c.args.shelf.now) read query) c.in-Err.refused (g.O.Sink.written c.args.out.now) (g.F.Shelf.told c.args.shelf.now) (g.F.Shelf.told c.log_of.new.shelf)
     (c.in-Err.ensures.log c.args.log.now read query) c.in-Err.ensures.told)
 
 pub returns-in-Err-clause-cause : goal.returns-in-Err-clause-cause

@@ -1,4 +1,4 @@
-use Rattle.om_cli.specs.Ends.{end_of}
+use Rattle.om_cli.specs.Ending.{end_meant}
 use Rattle.om_cli.specs.Words.{asked_by}
 use Rattle.om_cli.proofs.AnswerLemmas.{ends_for}
 use Rattle.om_cli.proofs.program.run.Goals as goal
@@ -6,5 +6,5 @@ use Rattle.om_cli.proofs.program.run.Goals as goal
 pub returns-in-Some-clause-ends : goal.returns-in-Some-clause-ends
 returns-in-Some-clause-ends g c =
     λ read query readings.
-    ends_for _ (asked_by c.in-Some.request) (g.F.Shelf.told c.args.shelf.now) (g.F.Shelf.told c.serve.new.shelf) read query (g.O.Sink.written c.args.out.now) (g.O.Sink.written c.serve.new.out) (end_of c.serve.result)
+    ends_for _ (asked_by c.in-Some.request) (g.F.Shelf.told c.args.shelf.now) (g.F.Shelf.told c.serve.new.shelf) read query (g.O.Sink.written c.args.out.now) (g.O.Sink.written c.serve.new.out) (end_meant c.serve.result)
     c.in-Some.ensures (λ of. c.serve.ensures.ends read query of) readings

@@ -1,5 +1,5 @@
 use Rattle.std.proofs.Common.{subst, Err}
-use Rattle.om_cli.specs.Outcome.{queries, seen_in}
+use Rattle.om_cli.specs.Command.{queries, seen_in}
 use Rattle.om_cli.specs.Reads.{Reads}
 use Rattle.om_cli.proofs.AnswerLemmas.{read_all, text_given, unread_first, unread_second}
 use Rattle.om_cli.proofs.program.text_of.Goals as goal

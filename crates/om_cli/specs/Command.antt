@@ -1,10 +1,11 @@
 -- What a command means, as a function of its words, of the files that it names, and of what these say.
 use Rattle.std.specs.Prelude.{ℕ, nat_eq, nat_lt, bytes_eq, codes, decimal, if◌then◌else◌, List, [], ◌∷◌, ◌++◌, length, Option, Some, None, Result, Ok, Err}
+use Rattle.om_base.specs.Limits.{most_bytes}
 use Rattle.om_elf.specs.Executable.{elf_fault, elf_in}
 use Rattle.om_elf.specs.declared.elf.Elf.{Elf}
 use Rattle.om_elf.specs.declared.fault.ElfFault.{ElfFault}
 use Rattle.om_elf.specs.declared.fault.ElfFault.TheVariants as elf
-use Rattle.om_io.specs.Shelf.{Contents}
+use Rattle.om_io.specs.Shelf.{FilesByName}
 use Rattle.om_log.specs.declared.entry.Entry.{Entry}
 use Rattle.om_log.specs.declared.fault.LogFault.{LogFault}
 use Rattle.om_log.specs.declared.log.Log.{Log}
@@ -59,10 +60,6 @@ file_put None = None
 file_put (Some (queries exe log sql)) = None
 file_put (Some (records exe input log)) = Some log
 
--- the greatest number of bytes of a file that is read
-abbrev pub most_bytes : ℕ
-most_bytes = 67108864
-
 -- what there is to see of a file
 pub data Seen : Type 0 where
   -- its bytes
@@ -78,27 +75,27 @@ abbrev pub seen_of : Option (List ℕ) → Seen
 seen_of None = missing
 seen_of (Some bytes) = if nat_lt most_bytes (length bytes) then longer else found bytes
 
-abbrev pub seen_in : Option Contents → List ℕ → Seen
+abbrev pub seen_in : Option FilesByName → List ℕ → Seen
 seen_in None name = untold
 seen_in (Some files) name = seen_of (files name)
 
--- what a command comes to, apart from faults of the outside and want of memory
-pub data Outcome : Type 0 where
+-- the effect that a command comes to, apart from faults of the outside and want of memory
+pub data Effect : Type 0 where
   -- it prints a text
-  prints : List ℕ → Outcome
+  prints : List ℕ → Effect
   -- it puts a file with these bytes, and then prints a text
-  puts : (name bytes text : List ℕ) → Outcome
+  puts : (name bytes text : List ℕ) → Effect
   -- it is refused
-  refuses : Refusal → Outcome
+  refuses : Refusal → Effect
   -- it needs a file that has more bytes than are read
-  exceeds : List ℕ → Outcome
+  exceeds : List ℕ → Effect
   -- it needs a file that isn't there
-  misses : List ℕ → Outcome
+  misses : List ℕ → Effect
   -- it depends on contents that aren't told
-  depends : Outcome
+  depends : Effect
 
 -- a file is read, and then comes what follows with its bytes
-abbrev pub read_then : List ℕ → Seen → (List ℕ → Outcome) → Outcome
+abbrev pub read_then : List ℕ → Seen → (List ℕ → Effect) → Effect
 read_then name (found bytes) following = following bytes
 read_then name longer following = exceeds name
 read_then name missing following = misses name
@@ -106,15 +103,15 @@ read_then name untold following = depends
 
 -- the greatest number of steps that are replayed or recorded
 abbrev pub most_steps : ℕ
-most_steps = 4000000
+most_steps = 4_000_000
 
 -- a run that departs from its log is refused, and any other has its answer
-abbrev pub ended_by : Option Departure → List ℕ → Outcome
+abbrev pub ended_by : Option Departure → List ℕ → Effect
 ended_by None text = prints text
 ended_by (Some departure) text = refuses (refusal.Departs departure)
 
 -- what a question about a run comes to
-abbrev pub judged_run : List Entry → State → Question → Outcome
+abbrev pub judged_run : List Entry → State → Question → Effect
 judged_run entries first question =
     let last = (end_of entries).step in
     if nat_lt most_steps last
@@ -122,11 +119,11 @@ judged_run entries first question =
     else ended_by (departure_of entries first) (answer_text entries first question)
 
 -- the query is judged where no regions overlap, and the run where the query is one that is built
-abbrev pub judged_query : List Entry → State → Option Question → Outcome
+abbrev pub judged_query : List Entry → State → Option Question → Effect
 judged_query entries first None = refuses (refusal.Unbuilt part.Query)
 judged_query entries first (Some question) = judged_run entries first question
 
-abbrev pub judged_overlap : Option (ℕ × ℕ) → Elf → Log → Option Question → Outcome
+abbrev pub judged_overlap : Option (ℕ × ℕ) → Elf → Log → Option Question → Effect
 judged_overlap (Some pair) elf log question = refuses (refusal.Overlap pair.0 pair.1)
 judged_overlap None elf log question = judged_query log.entries (first_state elf log.start) question
 
@@ -136,7 +133,7 @@ question_of (Ok query) = question_in query
 question_of (Err fault) = None
 
 -- a log that isn't one is refused, and of another one the overlap is judged
-abbrev pub judged_log : Elf → Result Log LogFault → Option Question → Outcome
+abbrev pub judged_log : Elf → Result Log LogFault → Option Question → Effect
 judged_log elf (Err fault) question = refuses (refusal.Log fault)
 judged_log elf (Ok log) question = judged_overlap (overlap_of (regions_of elf.segments log.start)) elf log question
 
@@ -145,12 +142,12 @@ abbrev pub refused_elf : ElfFault → Refusal
 refused_elf elf.Unbuilt = refusal.Unbuilt part.Executable
 refused_elf fault = refusal.Executable fault
 
-abbrev pub judged_elf : Option ElfFault → Elf → Result Log LogFault → Option Question → Outcome
+abbrev pub judged_elf : Option ElfFault → Elf → Result Log LogFault → Option Question → Effect
 judged_elf (Some fault) elf log question = refuses (refused_elf fault)
 judged_elf None elf log question = judged_log elf log question
 
 -- what a query comes to over the bytes of an executable, a log and a query, as these are read
-unfoldable pub judged : List ℕ → Result Log LogFault → Result Query ParseFault → Outcome
+unfoldable pub judged : List ℕ → Result Log LogFault → Result Query ParseFault → Effect
 judged exe log query = judged_elf (elf_fault exe) (elf_in exe) log (question_of query)
 
 -- ---- recording
@@ -164,34 +161,34 @@ abbrev pub summary : Recorded → List ℕ
 summary r = codes "steps " ++ decimal r.steps ++ codes " end " ++ cause_word r.cause ++ codes " " ++ decimal r.value ++ 10 ∷ []
 
 -- a log that was made is put under this name
-abbrev pub put_under : List ℕ → Recording → Outcome
+abbrev pub put_under : List ℕ → Recording → Effect
 put_under name (made r) = puts name r.bytes (summary r)
 put_under name (too_long step) = refuses (refusal.LogTooLong step)
 put_under name (no_room a b) = refuses (refusal.NoRoom a b)
 
-abbrev pub recorded_elf : Option ElfFault → Elf → (input name : List ℕ) → Outcome
+abbrev pub recorded_elf : Option ElfFault → Elf → (input name : List ℕ) → Effect
 recorded_elf (Some fault) elf input name = refuses (refused_elf fault)
 recorded_elf None elf input name = put_under name (recording elf input most_steps)
 
 -- what a recording comes to over the bytes of an executable and of an input
-unfoldable pub recorded_run : (exe input name : List ℕ) → Outcome
+unfoldable pub recorded_run : (exe input name : List ℕ) → Effect
 recorded_run exe input name = recorded_elf (elf_fault exe) (elf_in exe) input name
 
 -- ---- all commands
 
 -- what a request comes to over the bytes of its two files, where a log and a query are read so
-abbrev pub outcome_with : Request → Result Log LogFault → Result Query ParseFault → (first second : List ℕ) → Outcome
-outcome_with (queries exe log sql) read query first second = judged first read query
-outcome_with (records exe input log) read query first second = recorded_run first second log
+abbrev pub effect_with : Request → Result Log LogFault → Result Query ParseFault → (first second : List ℕ) → Effect
+effect_with (queries exe log sql) read query first second = judged first read query
+effect_with (records exe input log) read query first second = recorded_run first second log
 
 -- what a request comes to over the files that are told
-abbrev pub outcome_for : Option Request → Option Contents → Result Log LogFault → Result Query ParseFault → Outcome
-outcome_for None files log query = refuses (refusal.Unbuilt part.Words)
-outcome_for (Some request) files log query =
+abbrev pub effect_for : Option Request → Option FilesByName → Result Log LogFault → Result Query ParseFault → Effect
+effect_for None files log query = refuses (refusal.Unbuilt part.Words)
+effect_for (Some request) files log query =
     read_then (first_file request) (seen_in files (first_file request)) (λ first.
     read_then (second_file request) (seen_in files (second_file request)) (λ second.
-    outcome_with request log query first second))
+    effect_with request log query first second))
 
 -- what the words come to over the files that are told, where the log and the query are read so
-abbrev pub outcome_of : List (List ℕ) → Option Contents → Result Log LogFault → Result Query ParseFault → Outcome
-outcome_of words files log query = outcome_for (request_of words) files log query
+abbrev pub effect_of : List (List ℕ) → Option FilesByName → Result Log LogFault → Result Query ParseFault → Effect
+effect_of words files log query = effect_for (request_of words) files log query

@@ -4,11 +4,11 @@ use Rattle.om_cli.specs.declared.ending.Ending.{Ending}
 use Rattle.om_cli.specs.declared.ending.Ending.TheVariants.{Done, Refused, NoMemory, Unread, Exceeded, Unput, Unwritten}
 
 -- the end that an ending stands for
-abbrev pub end_of : Ending → End
-end_of Done = done
-end_of (Refused refusal) = refused refusal
-end_of NoMemory = no_memory
-end_of (Unread name) = unread name.now
-end_of (Exceeded name) = exceeded name.now
-end_of (Unput name) = unput name.now
-end_of Unwritten = unwritten
+abbrev pub end_meant : Ending → End
+end_meant Done = done
+end_meant (Refused refusal) = refused refusal
+end_meant NoMemory = no_memory
+end_meant (Unread name) = unread name.now
+end_meant (Exceeded name) = exceeded name.now
+end_meant (Unput name) = unput name.now
+end_meant Unwritten = unwritten
