@@ -1,0 +1,16 @@
+pub mod EntryLaws
+pub mod HeadLaws
+pub mod UnitLaws
+pub mod ReferenceLaws
+pub mod AttributeLaws
+pub mod FieldLemmas
+pub mod IndexLemmas
+pub mod RangeLemmas
+pub mod ReaderLemmas
+pub mod TableLaws
+pub mod ValueLaws
+pub mod ListLaws
+pub mod EntryOnce
+pub mod UnitOnce
+pub mod ReadLaws
+pub mod TotalLaws

@@ -1,0 +1,16 @@
+pub mod Value
+pub mod Forms
+pub mod Abbreviations
+pub mod Attributes
+pub mod Entries
+pub mod Index
+pub mod Units
+pub mod Refusals
+pub mod Ranges
+pub mod Shown
+pub mod Steps
+pub mod Pieces
+pub mod References
+pub mod Readers
+pub mod Declarations
+pub mod Laws
