@@ -1,0 +1,1 @@
+SELECT step, func, sp FROM states WHERE step < 4
