@@ -1,0 +1,4 @@
+pub mod FoundLemmas
+pub mod GrowingLemmas
+pub mod HeaderLemmas
+pub mod SizeLemmas

@@ -1,0 +1,98 @@
+-- Debugging information as DWARF 4 spells it: section 7.5.
+-- Each number that the standard spells in LEB128 is below 128 here, and so is one byte (section 7.6).
+use Rattle.std.specs.Prelude.{ℕ, ◌+◌, List, [], ◌∷◌, ◌++◌, length}
+use Rattle.std.specs.List.{flat_map}
+use Rattle.om_image.specs.DwarfNumbers.{DW_AT_byte_size, DW_AT_encoding, DW_AT_frame_base, DW_AT_high_pc, DW_AT_location, DW_AT_low_pc, DW_AT_name, DW_AT_ranges, DW_AT_type, DW_CHILDREN_no, DW_CHILDREN_yes, DW_FORM_addr, DW_FORM_data1, DW_FORM_data4, DW_FORM_exprloc, DW_FORM_ref4, DW_FORM_sec_offset, DW_FORM_string, DW_TAG_base_type, DW_TAG_compile_unit, DW_TAG_formal_parameter, DW_TAG_lexical_block, DW_TAG_subprogram, DW_TAG_variable}
+use Rattle.om_image.specs.ElfFile.{half, word}
+
+-- ---- abbreviations: section 7.5.3
+
+-- the declaration of a code: the tag of its entries, whether they have children, and the names and forms of their attributes
+abbrev pub declaration : (code tag children : ℕ) → List (ℕ × ℕ) → List ℕ
+declaration code tag children attributes =
+    code ∷ tag ∷ children ∷ (flat_map (λ a. a.0 ∷ a.1 ∷ []) attributes ++ 0 ∷ 0 ∷ [])
+
+-- attributes that several declarations have
+abbrev pub span : List (ℕ × ℕ)
+span = (DW_AT_name, DW_FORM_string) ∷ (DW_AT_low_pc, DW_FORM_addr) ∷ (DW_AT_high_pc, DW_FORM_data4) ∷ []
+
+abbrev pub typed : List (ℕ × ℕ)
+typed = (DW_AT_name, DW_FORM_string) ∷ (DW_AT_type, DW_FORM_ref4) ∷ (DW_AT_location, DW_FORM_exprloc) ∷ []
+
+-- the table of all worked programs
+unfoldable pub abbreviations : List ℕ
+abbreviations =
+    declaration 1 DW_TAG_compile_unit DW_CHILDREN_yes []
+    ++ declaration 2 DW_TAG_subprogram DW_CHILDREN_no span
+    ++ declaration 3 DW_TAG_subprogram DW_CHILDREN_yes (span ++ (DW_AT_frame_base, DW_FORM_exprloc) ∷ [])
+    ++ declaration 4 DW_TAG_formal_parameter DW_CHILDREN_no typed
+    ++ declaration 5 DW_TAG_base_type DW_CHILDREN_no
+    ((DW_AT_byte_size, DW_FORM_data1) ∷ (DW_AT_encoding, DW_FORM_data1) ∷ (DW_AT_name, DW_FORM_string) ∷ [])
+    ++ declaration 6 DW_TAG_variable DW_CHILDREN_no typed
+    ++ declaration 7 DW_TAG_lexical_block DW_CHILDREN_yes ((DW_AT_ranges, DW_FORM_sec_offset) ∷ [])
+    ++ declaration 8 DW_TAG_subprogram DW_CHILDREN_yes span
+    ++ 0 ∷ []
+
+-- ---- entries of that table: section 7.5.2
+
+-- a text and the zero byte behind it (DW_FORM_string)
+abbrev pub text : List ℕ → List ℕ
+text bytes = bytes ++ 0 ∷ []
+
+-- the operations of an expression behind their length (DW_FORM_exprloc)
+abbrev pub expression : List ℕ → List ℕ
+expression operations = length operations ∷ operations
+
+-- the entry of a unit
+abbrev pub compile_unit : List ℕ
+compile_unit = 1 ∷ []
+
+-- a function over so many bytes from an address on, which has no children
+abbrev pub subprogram : (name : List ℕ) → (low_pc size : ℕ) → List ℕ
+subprogram name low_pc size = 2 ∷ (text name ++ word low_pc ++ word size)
+
+-- a function with children and a frame base
+abbrev pub framed_subprogram : (name : List ℕ) → (low_pc size : ℕ) → (frame_base : List ℕ) → List ℕ
+framed_subprogram name low_pc size frame_base = 3 ∷ (text name ++ word low_pc ++ word size ++ expression frame_base)
+
+-- a parameter, whose type is the entry at an offset of the unit
+abbrev pub formal_parameter : (name : List ℕ) → (type_at : ℕ) → (location : List ℕ) → List ℕ
+formal_parameter name type_at location = 4 ∷ (text name ++ word type_at ++ expression location)
+
+-- a type of so many bytes
+abbrev pub base_type : (byte_size encoding : ℕ) → (name : List ℕ) → List ℕ
+base_type byte_size encoding name = 5 ∷ byte_size ∷ encoding ∷ text name
+
+-- a variable, whose type is the entry at an offset of the unit
+abbrev pub variable : (name : List ℕ) → (type_at : ℕ) → (location : List ℕ) → List ℕ
+variable name type_at location = 6 ∷ (text name ++ word type_at ++ expression location)
+
+-- a block whose addresses are those of the list at an offset of `.debug_ranges`
+abbrev pub lexical_block : (ranges_at : ℕ) → List ℕ
+lexical_block ranges_at = 7 ∷ word ranges_at
+
+-- a function with children
+abbrev pub outer_subprogram : (name : List ℕ) → (low_pc size : ℕ) → List ℕ
+outer_subprogram name low_pc size = 8 ∷ (text name ++ word low_pc ++ word size)
+
+-- the end of the children of an entry
+abbrev pub end_of_children : List ℕ
+end_of_children = 0 ∷ []
+
+-- ---- units: section 7.5.1.1
+
+-- the offset in its unit of the entry behind these, which stand behind the unit's header of 11 bytes
+abbrev pub offset_behind : List ℕ → ℕ
+offset_behind entries = 11 + length entries
+
+-- a unit of version 4, with the table at 0 of `.debug_abbrev` and addresses of 4 bytes, behind its length
+abbrev pub unit : List ℕ → List ℕ
+unit entries =
+    let behind = half 4 ++ word 0 ++ 4 ∷ entries in
+    word (length behind) ++ behind
+
+-- ---- ranges: section 7.23
+
+-- the list of one range, whose base address is 0
+abbrev pub range_list : (low high : ℕ) → List ℕ
+range_list low high = word low ++ word high ++ word 0 ++ word 0

@@ -1,0 +1,6 @@
+pub mod Dwarf
+pub mod DwarfNumbers
+pub mod ElfFile
+pub mod Found
+pub mod Growing
+pub mod Programs

@@ -1,0 +1,106 @@
+//! The debugging information of the worked programs, as bytes: DWARF 4, section 7.5.
+
+ghost use Rattle.std.specs.Prelude.{◌≡◌, ◌+◌, ◌<◌, codes, length};
+ghost use Rattle.om_image.specs.Dwarf as dwarf;
+ghost use Rattle.om_image.specs.ElfFile.{program_bits};
+ghost use Rattle.om_image.specs.Programs as spec;
+
+use crate::section::Section;
+
+/// `.debug_abbrev`, for all of them: section 7.5.3.
+const ABBREVIATIONS: [u8; 81] = [
+    1, 0x11, 1, 0, 0, // a unit, with children
+    2, 0x2e, 0, 0x03, 0x08, 0x11, 0x01, 0x12, 0x06, 0, 0, // a function: name, low_pc, high_pc
+    3, 0x2e, 1, 0x03, 0x08, 0x11, 0x01, 0x12, 0x06, // a function with children: those
+    0x40, 0x18, 0, 0, // and frame_base
+    4, 0x05, 0, 0x03, 0x08, 0x49, 0x13, 0x02, 0x18, 0, 0, // a parameter: name, type, location
+    5, 0x24, 0, 0x0b, 0x0b, 0x3e, 0x0b, 0x03, 0x08, 0, 0, // a type: byte_size, encoding, name
+    6, 0x34, 0, 0x03, 0x08, 0x49, 0x13, 0x02, 0x18, 0, 0, // a variable: name, type, location
+    7, 0x0b, 1, 0x55, 0x17, 0, 0, // a block with children: ranges
+    8, 0x2e, 1, 0x03, 0x08, 0x11, 0x01, 0x12, 0x06, 0, 0, // a function with children
+    0,
+];
+
+/// `.debug_info` of G.
+const READ_INFO: [u8; 39] = [
+    35, 0, 0, 0, 4, 0, 0, 0, 0, 0, 4, // 35 bytes follow the length, of version 4
+    1, // at 11: the unit
+    5, 4, 5, b'i', b'n', b't', 0, // at 12: the type
+    6, b'c', b'o', b'u', b'n', b't', b'e', b'r', 0, 12, 0, 0, 0, // `counter`, of the type at 12
+    5, 0x03, 0, 0, 2, 0, // DW_OP_addr 0x20000
+    0,
+];
+
+/// `.debug_info` of B.
+const BLOCKS_INFO: [u8; 56] = [
+    52, 0, 0, 0, 4, 0, 0, 0, 0, 0, 4, // 52 bytes follow the length, of version 4
+    1, // at 11: the unit
+    5, 4, 5, b'i', b'n', b't', 0, // at 12: the type
+    8, b'f', 0, 0, 0, 1, 0, 20, 0, 0, 0, // `f`, from 65536 on, 20 bytes long
+    6, b'i', 0, 12, 0, 0, 0, 1, 0x5a, // `i`, of the type at 12: DW_OP_reg10
+    7, 0, 0, 0, 0, // a block, with the ranges at 0
+    6, b'i', 0, 12, 0, 0, 0, 1, 0x61, // `i`, of the type at 12: DW_OP_reg17
+    0, 0, 0, // the ends of the block, of `f` and of the unit
+];
+
+/// `.debug_ranges` of B: from 65544 up to 65548, and the end of the list.
+const BLOCKS_RANGES: [u8; 16] = [8, 0, 1, 0, 12, 0, 1, 0, 0, 0, 0, 0, 0, 0, 0, 0];
+
+/// `.debug_info` of S.
+const SMALL_INFO: [u8; 61] = [
+    57, 0, 0, 0, 4, 0, 0, 0, 0, 0, 4, // 57 bytes follow the length, of version 4
+    1, // at 11: the unit
+    2, b'm', b'a', b'i', b'n', 0, 0, 0, 1, 0, 20, 0, 0, 0, // `main`, from 65536 on, 20 bytes long
+    3, b'd', b'o', b'w', b'n', 0, 20, 0, 1, 0, 60, 0, 0, 0, // `down`, from 65556 on, 60 bytes long
+    1, 0x9c, // its frame base: DW_OP_call_frame_cfa
+    4, b'n', 0, 53, 0, 0, 0, // `n`, of the type at 53
+    2, 0x91, 0x6c, // DW_OP_fbreg -20
+    0, // the end of `down`
+    5, 4, 5, b'i', b'n', b't', 0, // at 53: the type
+    0,
+];
+
+/// The abbreviations of all programs.
+#[tactic(auto, unfolding(crate::specs::Dwarf::abbreviations))]
+pub(crate) fn abbreviations() -> Section<'static>
+    ensures bytes { result ≡ program_bits (codes ".debug_abbrev") dwarf.abbreviations }
+    ensures small { length result.name + length result.bytes < 100 }
+{
+    Section::program_bits(b".debug_abbrev", &ABBREVIATIONS)
+}
+
+/// The entries of G.
+#[tactic(auto, unfolding(crate::specs::Programs::read_info, crate::specs::ElfFile::half, crate::specs::ElfFile::word))]
+pub(crate) fn read_info() -> Section<'static>
+    ensures bytes { result ≡ program_bits (codes ".debug_info") spec.read_info }
+    ensures small { length result.name + length result.bytes < 100 }
+{
+    Section::program_bits(b".debug_info", &READ_INFO)
+}
+
+/// The entries of B.
+#[tactic(auto, unfolding(crate::specs::Programs::blocks_info, crate::specs::ElfFile::half, crate::specs::ElfFile::word))]
+pub(crate) fn blocks_info() -> Section<'static>
+    ensures bytes { result ≡ program_bits (codes ".debug_info") spec.blocks_info }
+    ensures small { length result.name + length result.bytes < 100 }
+{
+    Section::program_bits(b".debug_info", &BLOCKS_INFO)
+}
+
+/// The ranges of B.
+#[tactic(auto, unfolding(crate::specs::Programs::blocks_ranges, crate::specs::ElfFile::half, crate::specs::ElfFile::word))]
+pub(crate) fn blocks_ranges() -> Section<'static>
+    ensures bytes { result ≡ program_bits (codes ".debug_ranges") spec.blocks_ranges }
+    ensures small { length result.name + length result.bytes < 100 }
+{
+    Section::program_bits(b".debug_ranges", &BLOCKS_RANGES)
+}
+
+/// The entries of S.
+#[tactic(auto, unfolding(crate::specs::Programs::small_info, crate::specs::ElfFile::half, crate::specs::ElfFile::word))]
+pub(crate) fn small_info() -> Section<'static>
+    ensures bytes { result ≡ program_bits (codes ".debug_info") spec.small_info }
+    ensures small { length result.name + length result.bytes < 100 }
+{
+    Section::program_bits(b".debug_info", &SMALL_INFO)
+}
