@@ -3,66 +3,95 @@ use Rattle.std.proofs.Common.{◌≡◌, ℕ, List, refl, sym, subst, inl, inr, 
 use Rattle.std.specs.Prelude.{Option, Result, IfErr, IfSome, ◌⊎◌, [], ◌<◌, slice_index}
 use Rattle.om_elf.specs.Executable.{elf_fault, elf_in}
 use Rattle.om_elf.specs.Gives.{Gives}
+use Rattle.om_elf.specs.declared.elf.Elf.{Elf}
 use Rattle.om_elf.specs.declared.fault.ElfFault.{ElfFault}
 use Rattle.om_elf.specs.declared.fault.ElfFault.TheVariants as elf
 use Rattle.om_io.specs.Shelf.{FilesByName, Holds}
-use Rattle.om_log.specs.Grammar.{IsLog}
-use Rattle.om_log.specs.Faults.{IsFault}
 use Rattle.om_log.specs.declared.fault.LogFault.{LogFault}
 use Rattle.om_log.specs.declared.fault.LogFault.TheVariants as log
 use Rattle.om_log.specs.declared.log.Log.{Log}
-use Rattle.om_parse.specs.declared.fault.ParseFault.{ParseFault}
-use Rattle.om_parse.specs.declared.tree.Query.{Query}
+use Rattle.om_names.specs.Information.{Information}
+use Rattle.om_names.specs.declared.fault.NamesFault.{NamesFault}
+use Rattle.om_names.specs.declared.fault.NamesFault.TheVariants as names
 use Rattle.om_record.specs.declared.recorded.Recorded.{Recorded}
 use Rattle.std.specs.Io.KnownBytes.{Appends, Keeps}
 use Rattle.std.proofs.lemmas.List.{append-nil}
 use Rattle.om_cli.specs.Lines.{End, no_memory, unread}
 use Rattle.om_cli.specs.Result.{Counts, Ends, HasCause, ReadsFile}
-use Rattle.om_cli.specs.Command.{Effect, Request, queries, records, prints, puts, misses, depends, exceeds, first_file, second_file, judged, effect_for, recorded_run, refuses, seen_in}
-use Rattle.om_cli.specs.Readings.{IsLogReading, IsQueryReading}
-use Rattle.om_cli.specs.Reads.{AnswersLog, AnswersText, AreReadings, AreReadingsOf, GivesLog, GivesText, IsAfterReads, IsMet, IsRefused, IsUnread, Reads, end_of_refused, refused_by, refused_by_elf}
+use Rattle.om_cli.specs.Command.{Effect, Request, queries, records, prints, puts, misses, depends, exceeds, first_file, second_file, judged, judged_log, question_of, effect_for, recorded_run, refuses, seen_in}
+use Rattle.om_cli.specs.Readings.{Readings, IsReadAs, IsDebugReading, IsLogReading, IsQueryReading}
+use Rattle.om_cli.specs.Reads.{AnswersLog, AnswersText, AreReadings, AreReadingsOf, GivesLog, GivesText, IsAfterReads, IsMet, IsRefused, IsUnread, Reads, end_of_refused, refused_by, refused_by_debug, refused_by_elf}
+use Rattle.om_cli.specs.declared.asked.Question.{Question}
 use Rattle.om_cli.specs.declared.refused.Refused.{Refused}
 use Rattle.om_cli.specs.declared.refused.Refused.TheVariants.{NoMemory, Because, Unread, Exceeded}
 
--- where a reader answered a fault other than want of memory, the file has no reading but that
-pub only_fault : (file : List ℕ) (fault : LogFault) (read : Result Log LogFault)
-    → ((l : Log) → IsLog file l → (◌≡◌ {A = Result Log LogFault} (Err fault) (Ok l)) ⊎ (◌≡◌ {A = Result Log LogFault} (Err fault) (Err log.NoMemory)))
-    → ((f : LogFault) → IsFault file f → (◌≡◌ {A = Result Log LogFault} (Err fault) (Err f)) ⊎ (◌≡◌ {A = Result Log LogFault} (Err fault) (Err log.NoMemory)))
-    → IsLogReading file read → (fault ≡ log.NoMemory) ⊎ (read ≡ Err fault)
-only_fault file fault (Ok l) reads faults is =
-    elim (reads l is) as (λ _. (fault ≡ log.NoMemory) ⊎ (◌≡◌ {A = Result Log LogFault} (Ok l) (Err fault))) [
+-- where a reader answered a fault other than want of memory, there is nothing to read but that
+pub only_fault : {A F : Type 0} (Is : A → Type 0) (Has : F → Type 0) (none fault : F) (read : Result A F)
+    → ((it : A) → Is it → (◌≡◌ {A = Result A F} (Err fault) (Ok it)) ⊎ (◌≡◌ {A = Result A F} (Err fault) (Err none)))
+    → ((f : F) → Has f → (◌≡◌ {A = Result A F} (Err fault) (Err f)) ⊎ (◌≡◌ {A = Result A F} (Err fault) (Err none)))
+    → IsReadAs Is Has read → (fault ≡ none) ⊎ (read ≡ Err fault)
+only_fault {A} {F} Is Has none fault (Ok it) reads faults is =
+    elim (reads it is) as (λ _. (fault ≡ none) ⊎ (◌≡◌ {A = Result A F} (Ok it) (Err fault))) [
       | inl e ↦ cc
       | inr e ↦ inl (cc)
     ]
-only_fault file fault (Err f) reads faults is =
-    elim (faults f is) as (λ _. (fault ≡ log.NoMemory) ⊎ (◌≡◌ {A = Result Log LogFault} (Err f) (Err fault))) [
+only_fault {A} {F} Is Has none fault (Err f) reads faults is =
+    elim (faults f is) as (λ _. (fault ≡ none) ⊎ (◌≡◌ {A = Result A F} (Err f) (Err fault))) [
       | inl e ↦ inr (sym e)
       | inr e ↦ inl (cc)
     ]
 
+-- where a reader answered a thing, there is nothing to read but that
+pub only_thing : {A F : Type 0} (Is : A → Type 0) (Has : F → Type 0) (none : F) (it : A) (read : Result A F)
+    → ((other : A) → Is other → (◌≡◌ {A = Result A F} (Ok it) (Ok other)) ⊎ (◌≡◌ {A = Result A F} (Ok it) (Err none)))
+    → ((f : F) → Has f → (◌≡◌ {A = Result A F} (Ok it) (Err f)) ⊎ (◌≡◌ {A = Result A F} (Ok it) (Err none)))
+    → IsReadAs Is Has read → read ≡ Ok it
+only_thing {A} {F} Is Has none it (Ok other) reads faults is =
+    elim (reads other is) as (λ _. ◌≡◌ {A = Result A F} (Ok other) (Ok it)) [
+      | inl e ↦ sym e
+      | inr e ↦ cc
+    ]
+only_thing {A} {F} Is Has none it (Err f) reads faults is =
+    elim (faults f is) as (λ _. ◌≡◌ {A = Result A F} (Err f) (Ok it)) [
+      | inl e ↦ cc
+      | inr e ↦ cc
+    ]
+
 -- the answer where an executable has a fault
-pub elf_refused : (exe : List ℕ) (fault : ElfFault) (read : Result Log LogFault) (query : Result Query ParseFault)
-    → Gives (elf_fault exe) (elf_in exe) (Err fault) → GivesText (judged exe read query) (Err (refused_by_elf fault))
+pub elf_refused : (exe : List ℕ) (fault : ElfFault) (read : Readings)
+    → Gives (elf_fault exe) (elf_in exe) (Err fault) → GivesText (judged exe read) (Err (refused_by_elf fault))
 unfolding judged
-elf_refused exe elf.NoMemory read query is = tt
-elf_refused exe elf.Unbuilt read query is = rw is refl
-elf_refused exe fault read query is = rw is refl
+elf_refused exe elf.NoMemory read is = tt
+elf_refused exe fault read is = rw is refl
 
 -- the recording where an executable has a fault
 pub elf_unrecorded : (exe : List ℕ) (fault : ElfFault) (input name : List ℕ)
     → Gives (elf_fault exe) (elf_in exe) (Err fault) → GivesLog (recorded_run exe input name) name (Err (refused_by_elf fault))
 unfolding recorded_run
 elf_unrecorded exe elf.NoMemory input name is = tt
-elf_unrecorded exe elf.Unbuilt input name is = rw is refl
 elf_unrecorded exe fault input name is = rw is refl
 
--- the answer where a log has a fault
-pub log_refused : (exe : List ℕ) (fault : LogFault) (read : Result Log LogFault) (query : Result Query ParseFault)
-    → elf_fault exe ≡ None → (fault ≡ log.NoMemory) ⊎ (read ≡ Err fault) → GivesText (judged exe read query) (Err (refused_by fault))
+-- the answer where debugging information has a fault
+pub debug_refused : (exe : List ℕ) (fault : NamesFault) (read : Readings)
+    → elf_fault exe ≡ None → (fault ≡ names.NoMemory) ⊎ (read.debug ≡ Err fault) → GivesText (judged exe read) (Err (refused_by_debug fault))
 unfolding judged
-log_refused exe log.NoMemory read query has way = tt
-log_refused exe fault read query has (inl e) = absurd (cc)
-log_refused exe fault read query has (inr e) = rw (has, e) refl
+debug_refused exe names.NoMemory read has way = tt
+debug_refused exe fault read has (inl e) = absurd (cc)
+debug_refused exe fault read has (inr e) = rw (has, e) refl
+
+-- the answer where there is debugging information
+pub debug_given : (exe : List ℕ) (info : Information) (read : Readings) (result : Result (List ℕ) Refused)
+    → elf_fault exe ≡ None → read.debug ≡ Ok info
+    → GivesText (judged_log (elf_in exe) info read.log (question_of read.query)) result → GivesText (judged exe read) result
+unfolding judged
+debug_given exe info read result has e gives = rw (has, e) gives
+
+-- the answer where a log has a fault
+pub log_refused : (elf : Elf) (info : Information) (fault : LogFault) (read : Result Log LogFault) (question : Option Question)
+    → (fault ≡ log.NoMemory) ⊎ (read ≡ Err fault) → GivesText (judged_log elf info read question) (Err (refused_by fault))
+log_refused elf info log.NoMemory read question way = tt
+log_refused elf info fault read question (inl e) = absurd (cc)
+log_refused elf info fault read question (inr e) = rw e refl
 
 -- ---- the files
 
@@ -96,45 +125,47 @@ log_answers effect name (Err (Unread file)) is = tt
 log_answers effect name (Err (Exceeded file)) is = absurd is
 
 -- a request that comes to a file which is refused
-pub unread_first : (request : Request) (files : Option FilesByName) (read : Result Log LogFault) (query : Result Query ParseFault) (why : Refused) (before after : ℕ)
+pub unread_first : (request : Request) (files : Option FilesByName) (read : Readings) (why : Refused) (before after : ℕ)
     → Reads (seen_in files (first_file request)) (first_file request) before after (Err why)
-    → IsRefused (effect_for (Some request) files read query) why
-unread_first request files read query NoMemory before after is = tt
-unread_first request files read query (Because refusal) before after is = absurd is
-unread_first request files read query (Unread name) before after is = tt
-unread_first request files read query (Exceeded name) before after (same, inl seen) = inl (rw (seen, same) refl)
-unread_first request files read query (Exceeded name) before after (same, inr unseen) = inr (rw unseen refl)
+    → IsRefused (effect_for (Some request) files read) why
+unread_first request files read NoMemory before after is = tt
+unread_first request files read (Because refusal) before after is = absurd is
+unread_first request files read (Unread name) before after is = tt
+unread_first request files read (Exceeded name) before after (same, inl seen) = inl (rw (seen, same) refl)
+unread_first request files read (Exceeded name) before after (same, inr unseen) = inr (rw unseen refl)
 
-pub unread_second : (request : Request) (files : Option FilesByName) (read : Result Log LogFault) (query : Result Query ParseFault) (first : List ℕ) (why : Refused) (before after : ℕ)
+pub unread_second : (request : Request) (files : Option FilesByName) (read : Readings) (first : List ℕ) (why : Refused) (before after : ℕ)
     → IsMet (seen_in files (first_file request)) first
     → Reads (seen_in files (second_file request)) (second_file request) before after (Err why)
-    → IsRefused (effect_for (Some request) files read query) why
-unread_second request files read query first NoMemory before after met is = tt
-unread_second request files read query first (Because refusal) before after met is = absurd is
-unread_second request files read query first (Unread name) before after met is = tt
-unread_second request files read query first (Exceeded name) before after (inr unseen) is = inr (rw unseen refl)
-unread_second request files read query first (Exceeded name) before after (inl met) (same, inl seen) = inl (rw (met, seen, same) refl)
-unread_second request files read query first (Exceeded name) before after (inl met) (same, inr unseen) = inr (rw (met, unseen) refl)
+    → IsRefused (effect_for (Some request) files read) why
+unread_second request files read first NoMemory before after met is = tt
+unread_second request files read first (Because refusal) before after met is = absurd is
+unread_second request files read first (Unread name) before after met is = tt
+unread_second request files read first (Exceeded name) before after (inr unseen) is = inr (rw unseen refl)
+unread_second request files read first (Exceeded name) before after (inl met) (same, inl seen) = inl (rw (met, seen, same) refl)
+unread_second request files read first (Exceeded name) before after (inl met) (same, inr unseen) = inr (rw (met, unseen) refl)
 
 -- the answer over the bytes of both files, where these are seen
-pub text_given : (exe log sql : List ℕ) (files : Option FilesByName) (program run : List ℕ) (read : Result Log LogFault) (query : Result Query ParseFault) (result : Result (List ℕ) Refused)
-    → IsMet (seen_in files exe) program → IsMet (seen_in files log) run → AreReadingsOf (queries exe log sql) files read query
-    → ((i : ℕ) → slice_index run i < 256)
-    → ((r : Result Log LogFault) (q : Result Query ParseFault) → IsLogReading run r → IsQueryReading sql q → GivesText (judged program r q) result)
-    → AnswersText (effect_for (Some (queries exe log sql)) files read query) result
-text_given exe log sql files program run read query result (inr unseen) run_met readings are_bytes answers = rw unseen (text_depends result)
-text_given exe log sql files program run read query result (inl seen) (inr unseen) readings are_bytes answers = rw (seen, unseen) (text_depends result)
-text_given exe log sql files program run read query result (inl seen) (inl run_seen) readings are_bytes answers =
-    rw (seen, run_seen) (text_answers (judged program read query) result (answers read query (readings.0 run run_seen are_bytes) readings.1))
+pub text_given : (exe log sql : List ℕ) (files : Option FilesByName) (program run : List ℕ) (read : Readings) (result : Result (List ℕ) Refused)
+    → IsMet (seen_in files exe) program → IsMet (seen_in files log) run → AreReadingsOf (queries exe log sql) files read
+    → ((i : ℕ) → slice_index program i < 256) → ((i : ℕ) → slice_index run i < 256)
+    → ((r : Readings) → (elf_fault program ≡ None → IsDebugReading (elf_in program) r.debug) → IsLogReading run r.log → IsQueryReading sql r.query
+        → GivesText (judged program r) result)
+    → AnswersText (effect_for (Some (queries exe log sql)) files read) result
+text_given exe log sql files program run read result (inr unseen) run_met readings exe_bytes run_bytes answers = rw unseen (text_depends result)
+text_given exe log sql files program run read result (inl seen) (inr unseen) readings exe_bytes run_bytes answers = rw (seen, unseen) (text_depends result)
+text_given exe log sql files program run read result (inl seen) (inl run_seen) readings exe_bytes run_bytes answers =
+    rw (seen, run_seen) (text_answers (judged program read) result
+    (answers read (readings.0 program seen exe_bytes) (readings.1 run run_seen run_bytes) readings.2))
 
 -- the log over the bytes of both files, where these are seen
-pub log_given : (exe input name : List ℕ) (files : Option FilesByName) (program taken : List ℕ) (read : Result Log LogFault) (query : Result Query ParseFault) (result : Result Recorded Refused)
+pub log_given : (exe input name : List ℕ) (files : Option FilesByName) (program taken : List ℕ) (read : Readings) (result : Result Recorded Refused)
     → IsMet (seen_in files exe) program → IsMet (seen_in files input) taken
     → GivesLog (recorded_run program taken name) name result
-    → AnswersLog (effect_for (Some (records exe input name)) files read query) name result
-log_given exe input name files program taken read query result (inr unseen) taken_met gives = rw unseen (log_depends name result)
-log_given exe input name files program taken read query result (inl seen) (inr unseen) gives = rw (seen, unseen) (log_depends name result)
-log_given exe input name files program taken read query result (inl seen) (inl taken_seen) gives =
+    → AnswersLog (effect_for (Some (records exe input name)) files read) name result
+log_given exe input name files program taken read result (inr unseen) taken_met gives = rw unseen (log_depends name result)
+log_given exe input name files program taken read result (inl seen) (inr unseen) gives = rw (seen, unseen) (log_depends name result)
+log_given exe input name files program taken read result (inl seen) (inl taken_seen) gives =
     rw (seen, taken_seen) (log_answers (recorded_run program taken name) name result gives)
 
 -- an answer over bytes has left no file unread
@@ -201,9 +232,9 @@ refused_cause request files before after (Unread name) is = is
 refused_cause request files before after (Exceeded name) is = is
 
 -- what is shown of a request holds of the words that are it
-pub ends_for : (asked : Option Request) (it : Request) (files after : Option FilesByName) (read : Result Log LogFault) (query : Result Query ParseFault) (old new : Option (List ℕ)) (end : End)
+pub ends_for : (asked : Option Request) (it : Request) (files after : Option FilesByName) (read : Readings) (old new : Option (List ℕ)) (end : End)
     → Some it ≡ asked
-    → (AreReadingsOf it files read query → Ends (effect_for (Some it) files read query) old new files after end)
-    → AreReadings asked files read query → Ends (effect_for asked files read query) old new files after end
-ends_for asked it files after read query old new end same ends readings =
-    subst (λ (a : Option Request). AreReadings a files read query → Ends (effect_for a files read query) old new files after end) same ends readings
+    → (AreReadingsOf it files read → Ends (effect_for (Some it) files read) old new files after end)
+    → AreReadings asked files read → Ends (effect_for asked files read) old new files after end
+ends_for asked it files after read old new end same ends readings =
+    subst (λ (a : Option Request). AreReadings a files read → Ends (effect_for a files read) old new files after end) same ends readings

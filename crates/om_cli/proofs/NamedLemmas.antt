@@ -8,6 +8,7 @@ use Rattle.om_eval.specs.Row.{Row}
 use Rattle.om_eval.specs.declared.column.ColumnId.{ColumnId}
 use Rattle.om_eval.specs.declared.value.Owned.{Owned}
 use Rattle.om_log.specs.declared.entry.Entry.{Entry}
+use Rattle.om_names.specs.Information.{Information}
 use Rattle.om_parse.specs.declared.tree.Item.{Item}
 use Rattle.om_step.specs.State.{State}
 use Rattle.om_cli.specs.Answer.{answer_rows, cells_of, is_kept, relation}
@@ -43,9 +44,9 @@ wide question (row ∷ rows) =
     All-cons (λ (row : List Owned). length row ≡ length question.columns) (cells_of question row) (map (cells_of question) rows) (length-map question.columns (cell_at row)) (wide question rows)
 
 -- each row of an answer has a cell for each name
-pub named_rows : (entries : List Entry) (first : State) (question : Question) (rows : List (List Owned)) → length question.names ≡ length question.columns → rows ≡ answer_rows entries first question → All (λ (row : List Owned). length row ≡ length question.names) rows
+pub named_rows : (info : Information) (entries : List Entry) (first : State) (question : Question) (rows : List (List Owned)) → length question.names ≡ length question.columns → rows ≡ answer_rows info entries first question → All (λ (row : List Owned). length row ≡ length question.names) rows
 unfolding answer_rows
-named_rows entries first question rows named are =
+named_rows info entries first question rows named are =
     subst (λ (n : ℕ). All (λ (row : List Owned). length row ≡ n) rows) (sym named)
     (subst (λ (all : List (List Owned)). All (λ (row : List Owned). length row ≡ length question.columns) all) (sym are)
-    (wide question (filter (is_kept question) (relation entries first))))
+    (wide question (filter (is_kept question) (relation info entries first))))

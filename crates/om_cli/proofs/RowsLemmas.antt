@@ -22,18 +22,19 @@ use Rattle.om_step.specs.declared.outcome.Touched.{Touched}
 use Rattle.om_run.specs.declared.departure.Halt.{Halt}
 use Rattle.om_step.specs.State.{State}
 use Rattle.om_cli.specs.Answer.{answer_rows, cells_of, is_kept, kept_of, rows_from}
-use Rattle.om_cli.specs.View.{row_of}
+use Rattle.om_names.specs.Information.{Information}
+use Rattle.om_view.specs.Row.{row_of}
 use Rattle.om_cli.specs.declared.asked.Question.{Question}
 
 -- ---- the rows
 
 -- the rows of some states and of those after them
-rows_from-append : (step : ℕ) (states later : List State) → rows_from step (states ++ later) ≡ rows_from step states ++ rows_from (step + length states) later
-rows_from-append step [] later = ap (λ (n : ℕ). rows_from n later) (let none : step ≡ step + 0 = omega arith in none)
-rows_from-append step (state ∷ states) later =
+rows_from-append : (info : Information) (step : ℕ) (states later : List State) → rows_from info step (states ++ later) ≡ rows_from info step states ++ rows_from info (step + length states) later
+rows_from-append info step [] later = ap (λ (n : ℕ). rows_from info n later) (let none : step ≡ step + 0 = omega arith in none)
+rows_from-append info step (state ∷ states) later =
     let more : step + 1 + length states ≡ step + suc (length states) = omega arith in
-    ap (λ (rows : List Row). row_of state step ∷ rows) (rows_from-append (step + 1) states later)
-    ∙ ap (λ (n : ℕ). row_of state step ∷ (rows_from (step + 1) states ++ rows_from n later)) more
+    ap (λ (rows : List Row). row_of info state step ∷ rows) (rows_from-append info (step + 1) states later)
+    ∙ ap (λ (n : ℕ). row_of info state step ∷ (rows_from info (step + 1) states ++ rows_from info n later)) more
 
 -- there are n numbers below n
 length-below : (n : ℕ) → length (below n) ≡ n
@@ -41,13 +42,13 @@ length-below zero = refl
 length-below (suc n) = let less = length-below n in omega (arith, length-append (below n) (n ∷ []))
 
 -- the rows before one step more
-rows_before-next : (entries : List Entry) (first : State) (i : ℕ)
-    → rows_before entries first (i + 1) ≡ rows_before entries first i ++ row_at entries first i ∷ []
-rows_before-next entries first i =
+rows_before-next : (info : Information) (entries : List Entry) (first : State) (i : ℕ)
+    → rows_before info entries first (i + 1) ≡ rows_before info entries first i ++ row_at info entries first i ∷ []
+rows_before-next info entries first i =
     let count : 0 + length (map (state_at entries first) (below i)) ≡ i = omega (arith, length-map (below i) (state_at entries first), length-below i) in
     rw (add-one, map-append (state_at entries first) (below i) (i ∷ []))
-    (rows_from-append 0 (map (state_at entries first) (below i)) (state_at entries first i ∷ [])
-    ∙ ap (λ (n : ℕ). rows_before entries first i ++ row_of (state_at entries first i) n ∷ []) count)
+    (rows_from-append info 0 (map (state_at entries first) (below i)) (state_at entries first i ∷ [])
+    ∙ ap (λ (n : ℕ). rows_before info entries first i ++ row_of info (state_at entries first i) n ∷ []) count)
 
 -- the cells of the one row, if a test holds
 cells_if : (b : Bool) (question : Question) (row : Row)
@@ -56,13 +57,13 @@ cells_if true question row = refl
 cells_if false question row = refl
 
 -- what is kept of the rows before one step more: what is kept so far, and that row where the condition is true
-pub kept_of-next : (entries : List Entry) (first : State) (question : Question) (i : ℕ)
-    → kept_of question (rows_before entries first (i + 1))
-    ≡ kept_of question (rows_before entries first i) ++ noted question (row_at entries first i)
-kept_of-next entries first question i =
-    let rows = rows_before entries first i in
-    let row = row_at entries first i in
-    rw (rows_before-next entries first i, filter-append (is_kept question) rows (row ∷ []), map-append (cells_of question) (filter (is_kept question) rows) (filter (is_kept question) (row ∷ [])))
+pub kept_of-next : (info : Information) (entries : List Entry) (first : State) (question : Question) (i : ℕ)
+    → kept_of question (rows_before info entries first (i + 1))
+    ≡ kept_of question (rows_before info entries first i) ++ noted question (row_at info entries first i)
+kept_of-next info entries first question i =
+    let rows = rows_before info entries first i in
+    let row = row_at info entries first i in
+    rw (rows_before-next info entries first i, filter-append (is_kept question) rows (row ∷ []), map-append (cells_of question) (filter (is_kept question) rows) (filter (is_kept question) (row ∷ [])))
     (ap (λ (cells : List (List Owned)). kept_of question rows ++ cells) (cells_if (is_kept question row) question row))
 
 -- ---- the departures
@@ -140,34 +141,34 @@ pub last_of : (place : Place) (entries : List Entry) → place.entries ≡ entri
 last_of place entries same = ap (λ (es : List Entry). (end_of es).step) same
 
 -- the row of a place
-pub row_here : (place : Place) (entries : List Entry) (first : State) → place.entries ≡ entries → place.first ≡ first → row_at place.entries place.first place.step ≡ row_at entries first place.step
-row_here place entries first same begins =
-    ap (λ (es : List Entry). row_of (state_at es place.first place.step) place.step) same
-    ∙ ap (λ (f : State). row_of (state_at entries f place.step) place.step) begins
+pub row_here : (info : Information) (place : Place) (entries : List Entry) (first : State) → place.entries ≡ entries → place.first ≡ first → row_at info place.entries place.first place.step ≡ row_at info entries first place.step
+row_here info place entries first same begins =
+    ap (λ (es : List Entry). row_of info (state_at es place.first place.step) place.step) same
+    ∙ ap (λ (f : State). row_of info (state_at entries f place.step) place.step) begins
 
 -- the rows after a place was looked at
-pub kept-next : (place : Place) (entries : List Entry) (first : State) (question : Question) (rows new : List (List Owned)) → place.entries ≡ entries → place.first ≡ first
-    → rows ≡ kept_of question (rows_before entries first place.step)
-    → new ≡ rows ++ noted question (row_at place.entries place.first place.step)
-    → new ≡ kept_of question (rows_before entries first (place.step + 1))
-kept-next place entries first question rows new same begins kept looked =
-    rw (kept_of-next entries first question place.step, ← kept, ← row_here place entries first same begins) looked
+pub kept-next : (info : Information) (place : Place) (entries : List Entry) (first : State) (question : Question) (rows new : List (List Owned)) → place.entries ≡ entries → place.first ≡ first
+    → rows ≡ kept_of question (rows_before info entries first place.step)
+    → new ≡ rows ++ noted question (row_at info place.entries place.first place.step)
+    → new ≡ kept_of question (rows_before info entries first (place.step + 1))
+kept-next info place entries first question rows new same begins kept looked =
+    rw (kept_of-next info entries first question place.step, ← kept, ← row_here info place entries first same begins) looked
 
 -- a replay that came to its end
-pub finished : (place : Place) (entries : List Entry) (first : State) (question : Question) (new : List (List Owned)) → place.entries ≡ entries → place.first ≡ first
+pub finished : (info : Information) (place : Place) (entries : List Entry) (first : State) (question : Question) (new : List (List Owned)) → place.entries ≡ entries → place.first ≡ first
     → place.step ≤ (end_of entries).step
     → first_departure entries first (below place.step) ≡ None
-    → new ≡ kept_of question (rows_before entries first (place.step + 1))
+    → new ≡ kept_of question (rows_before info entries first (place.step + 1))
     → verdict_at place ≡ Err Ended
-    → (departure_of entries first ≡ None) × (new ≡ answer_rows entries first question)
+    → (departure_of entries first ≡ None) × (new ≡ answer_rows info entries first question)
 unfolding departure_of answer_rows states
-finished place entries first question new same begins within going kept e =
+finished info place entries first question new same begins within going kept e =
     let over = ends place e in
     let least = over.1 in
     let last = last_of place entries same in
     let end : place.step ≡ (end_of entries).step = omega arith in
     let none = first_departure-next entries first place.step going (at_place place entries first None same begins over.0) in
-    (ap (λ (n : ℕ). first_departure entries first (below (n + 1))) (sym end) ∙ none, kept ∙ ap (λ (n : ℕ). kept_of question (rows_before entries first (n + 1))) end)
+    (ap (λ (n : ℕ). first_departure entries first (below (n + 1))) (sym end) ∙ none, kept ∙ ap (λ (n : ℕ). kept_of question (rows_before info entries first (n + 1))) end)
 
 -- a replay that departed
 pub departed : (place : Place) (entries : List Entry) (first : State) (told : Departure) → place.entries ≡ entries → place.first ≡ first
@@ -186,11 +187,11 @@ is_end Ended e = refl
 is_end (Departs departure) e = cc
 
 -- the answer where a run departs
-pub gives_stop : (place : Place) (entries : List Entry) (first : State) (question : Question) (halt : Halt) (why : Stopped) → stopped halt ≡ Some why
+pub gives_stop : (info : Information) (place : Place) (entries : List Entry) (first : State) (question : Question) (halt : Halt) (why : Stopped) → stopped halt ≡ Some why
     → place.entries ≡ entries → place.first ≡ first → place.step ≤ (end_of entries).step
     → first_departure entries first (below place.step) ≡ None
-    → verdict_at place ≡ Err halt → GivesRows entries first question (Err why)
-gives_stop place entries first question Ended why e same begins within going verdict = cc
-gives_stop place entries first question (Departs told) why e same begins within going verdict =
+    → verdict_at place ≡ Err halt → GivesRows info entries first question (Err why)
+gives_stop info place entries first question Ended why e same begins within going verdict = cc
+gives_stop info place entries first question (Departs told) why e same begins within going verdict =
     let is : Departed told ≡ why = cc in
-    subst (λ (w : Stopped). GivesRows entries first question (Err w)) is (departed place entries first told same begins within going verdict)
+    subst (λ (w : Stopped). GivesRows info entries first question (Err w)) is (departed place entries first told same begins within going verdict)

@@ -10,19 +10,20 @@ use Rattle.om_run.specs.Run.{states}
 use Rattle.om_step.specs.State.{State}
 use Rattle.om_table.specs.Text.{text_of}
 use Rattle.om_table.specs.declared.table.Style.TheVariants.{Columns}
-use Rattle.om_cli.specs.View.{row_of}
+use Rattle.om_names.specs.Information.{Information}
+use Rattle.om_view.specs.Row.{row_of}
 use Rattle.om_cli.specs.declared.asked.Question.{Question}
 
 -- ---- the relation
 
 -- the rows of states that follow one another, the first of which is the one after so many steps
-abbrev pub rows_from : ℕ → List State → List Row
-rows_from step [] = []
-rows_from step (state ∷ later) = row_of state step ∷ rows_from (step + 1) later
+abbrev pub rows_from : Information → ℕ → List State → List Row
+rows_from info step [] = []
+rows_from info step (state ∷ later) = row_of info state step ∷ rows_from info (step + 1) later
 
--- the relation: the rows of all states of a run
-abbrev pub relation : List Entry → State → List Row
-relation entries first = rows_from 0 (states entries first)
+-- the relation: the rows of all states of a run, with what is known of its executable
+abbrev pub relation : Information → List Entry → State → List Row
+relation info entries first = rows_from info 0 (states entries first)
 
 -- ---- the answer
 
@@ -44,10 +45,10 @@ abbrev pub kept_of : Question → List Row → List (List Owned)
 kept_of question rows = map (cells_of question) (filter (is_kept question) rows)
 
 -- the rows of the answer
-unfoldable pub answer_rows : List Entry → State → Question → List (List Owned)
-answer_rows entries first question = kept_of question (relation entries first)
+unfoldable pub answer_rows : Information → List Entry → State → Question → List (List Owned)
+answer_rows info entries first question = kept_of question (relation info entries first)
 
 -- the text of the answer
-abbrev pub answer_text : List Entry → State → Question → List ℕ
-answer_text entries first question =
-    text_of Columns (record { names = question.names; rows = answer_rows entries first question })
+abbrev pub answer_text : Information → List Entry → State → Question → List ℕ
+answer_text info entries first question =
+    text_of Columns (record { names = question.names; rows = answer_rows info entries first question })

@@ -1,7 +1,8 @@
 -- What a query asks of the relation.
-use Rattle.std.specs.Prelude.{ℕ, List, [], ◌∷◌, map, Option, Some, None, if◌then◌else◌}
+use Rattle.std.specs.Prelude.{ℕ, Bool, true, false, List, [], ◌∷◌, map, Option, Some, None, if◌then◌else◌}
 use Rattle.std.specs.Option.{option_map, option_and_then}
 use Rattle.om_eval.specs.declared.column.ColumnId.{ColumnId}
+use Rattle.om_eval.specs.declared.column.ColumnId.TheVariants as id
 use Rattle.om_eval.specs.declared.comparison.Compare.{Compare}
 use Rattle.om_eval.specs.declared.comparison.Compare.TheVariants as compare
 use Rattle.om_eval.specs.declared.cond.Cond.{Cond}
@@ -51,14 +52,30 @@ compare_of o.LessOrEqual = compare.LessEqual
 compare_of o.Greater = compare.Greater
 compare_of o.GreaterOrEqual = compare.GreaterEqual
 
+-- the values of a column are numbers
+abbrev pub has_numbers : ColumnId → Bool
+has_numbers id.Step = true
+has_numbers id.Pc = true
+has_numbers id.Insn = true
+has_numbers (id.Reg number) = true
+has_numbers id.Line = true
+has_numbers (id.Var place) = true
+has_numbers id.Func = false
+has_numbers id.File = false
+
+-- a column whose values are numbers
+abbrev pub number_column : Option ColumnId → Option ColumnId
+number_column None = None
+number_column (Some column) = if has_numbers column then Some column else None
+
 -- the comparison of a column with a number
 abbrev pub compared : CompareOp → ℕ → ColumnId → Cond
 compared op number column =
     cond.Compare (compare_of op) (expr.Column (record { table = 0; id = column })) (expr.Numeral number)
 
--- the comparison of two expressions, where the first is a column and the second a numeral
+-- the comparison of two expressions, where the first is a column of numbers and the second a numeral
 abbrev pub comparison_of : CompareOp → ExprTree → ExprTree → Option Cond
-comparison_of op left (e.Numeral numeral) = option_map (compared op numeral.value) (column_of left)
+comparison_of op left (e.Numeral numeral) = option_map (compared op numeral.value) (number_column (column_of left))
 comparison_of op left (e.Column column) = None
 
 -- what a condition is as one comparison
@@ -66,7 +83,7 @@ abbrev pub as_comparison : CondTree-F CondTree → Option Cond
 as_comparison (CondTree-F.Compare at op left right) = comparison_of op left right
 as_comparison (CondTree-F.All members) = None
 
--- the comparison that a condition is, if it is one of a column with a numeral
+-- the comparison that a condition is, if it is one of a column of numbers with a numeral
 unfoldable pub comparison : CondTree → Option Cond
 comparison tree = as_comparison (out-CondTree tree)
 

@@ -11,6 +11,7 @@ column_names =
     (codes "step", id.Step)
     ∷ (codes "pc", id.Pc)
     ∷ (codes "insn", id.Insn)
+    ∷ (codes "func", id.Func)
     ∷ (codes "x0", id.Reg 0)
     ∷ (codes "x1", id.Reg 1)
     ∷ (codes "x2", id.Reg 2)

@@ -4,7 +4,6 @@ use Rattle.om_base.specs.Limits.{most_bytes}
 use Rattle.om_elf.specs.Executable.{elf_fault, elf_in}
 use Rattle.om_elf.specs.declared.elf.Elf.{Elf}
 use Rattle.om_elf.specs.declared.fault.ElfFault.{ElfFault}
-use Rattle.om_elf.specs.declared.fault.ElfFault.TheVariants as elf
 use Rattle.om_io.specs.Shelf.{FilesByName}
 use Rattle.om_log.specs.declared.entry.Entry.{Entry}
 use Rattle.om_log.specs.declared.fault.LogFault.{LogFault}
@@ -12,6 +11,8 @@ use Rattle.om_log.specs.declared.log.Log.{Log}
 use Rattle.om_parse.specs.declared.fault.ParseFault.{ParseFault}
 use Rattle.om_parse.specs.declared.tree.Query.{Query}
 use Rattle.om_mem.specs.Contents.{overlap_of}
+use Rattle.om_names.specs.Information.{Information}
+use Rattle.om_names.specs.declared.fault.NamesFault.{NamesFault}
 use Rattle.om_record.specs.Recording.{Recording, made, too_long, no_room, recording}
 use Rattle.om_record.specs.declared.recorded.Recorded.{Recorded}
 use Rattle.om_run.specs.Departure.{departure_of}
@@ -24,6 +25,7 @@ use Rattle.om_cli.specs.declared.refusal.Refusal.{Refusal}
 use Rattle.om_cli.specs.declared.refusal.Refusal.TheVariants as refusal
 use Rattle.om_cli.specs.Answer.{answer_text}
 use Rattle.om_cli.specs.Asked.{question_in}
+use Rattle.om_cli.specs.Readings.{Readings}
 use Rattle.om_cli.specs.declared.asked.Question.{Question}
 
 -- what the words ask for
@@ -111,21 +113,21 @@ ended_by None text = prints text
 ended_by (Some departure) text = refuses (refusal.Departs departure)
 
 -- what a question about a run comes to
-abbrev pub judged_run : List Entry → State → Question → Effect
-judged_run entries first question =
+abbrev pub judged_run : Information → List Entry → State → Question → Effect
+judged_run info entries first question =
     let last = (end_of entries).step in
     if nat_lt most_steps last
     then refuses (refusal.TooLong last)
-    else ended_by (departure_of entries first) (answer_text entries first question)
+    else ended_by (departure_of entries first) (answer_text info entries first question)
 
 -- the query is judged where no regions overlap, and the run where the query is one that is built
-abbrev pub judged_query : List Entry → State → Option Question → Effect
-judged_query entries first None = refuses (refusal.Unbuilt part.Query)
-judged_query entries first (Some question) = judged_run entries first question
+abbrev pub judged_query : Information → List Entry → State → Option Question → Effect
+judged_query info entries first None = refuses (refusal.Unbuilt part.Query)
+judged_query info entries first (Some question) = judged_run info entries first question
 
-abbrev pub judged_overlap : Option (ℕ × ℕ) → Elf → Log → Option Question → Effect
-judged_overlap (Some pair) elf log question = refuses (refusal.Overlap pair.0 pair.1)
-judged_overlap None elf log question = judged_query log.entries (first_state elf log.start) question
+abbrev pub judged_overlap : Option (ℕ × ℕ) → Elf → Information → Log → Option Question → Effect
+judged_overlap (Some pair) elf info log question = refuses (refusal.Overlap pair.0 pair.1)
+judged_overlap None elf info log question = judged_query info log.entries (first_state elf log.start) question
 
 -- the question that a query's text is, if it is one that is built
 abbrev pub question_of : Result Query ParseFault → Option Question
@@ -133,22 +135,22 @@ question_of (Ok query) = question_in query
 question_of (Err fault) = None
 
 -- a log that isn't one is refused, and of another one the overlap is judged
-abbrev pub judged_log : Elf → Result Log LogFault → Option Question → Effect
-judged_log elf (Err fault) question = refuses (refusal.Log fault)
-judged_log elf (Ok log) question = judged_overlap (overlap_of (regions_of elf.segments log.start)) elf log question
+abbrev pub judged_log : Elf → Information → Result Log LogFault → Option Question → Effect
+judged_log elf info (Err fault) question = refuses (refusal.Log fault)
+judged_log elf info (Ok log) question = judged_overlap (overlap_of (regions_of elf.segments log.start)) elf info log question
 
--- the refusal of an executable
-abbrev pub refused_elf : ElfFault → Refusal
-refused_elf elf.Unbuilt = refusal.Unbuilt part.Executable
-refused_elf fault = refusal.Executable fault
+-- debugging information with a fault is refused, and then comes the log
+abbrev pub judged_debug : Elf → Result Information NamesFault → Result Log LogFault → Option Question → Effect
+judged_debug elf (Err fault) log question = refuses (refusal.Debug fault)
+judged_debug elf (Ok info) log question = judged_log elf info log question
 
-abbrev pub judged_elf : Option ElfFault → Elf → Result Log LogFault → Option Question → Effect
-judged_elf (Some fault) elf log question = refuses (refused_elf fault)
-judged_elf None elf log question = judged_log elf log question
+abbrev pub judged_elf : Option ElfFault → Elf → Readings → Effect
+judged_elf (Some fault) elf read = refuses (refusal.Executable fault)
+judged_elf None elf read = judged_debug elf read.debug read.log (question_of read.query)
 
--- what a query comes to over the bytes of an executable, a log and a query, as these are read
-unfoldable pub judged : List ℕ → Result Log LogFault → Result Query ParseFault → Effect
-judged exe log query = judged_elf (elf_fault exe) (elf_in exe) log (question_of query)
+-- what a query comes to over the bytes of an executable, where all that it rests on is read so
+unfoldable pub judged : List ℕ → Readings → Effect
+judged exe read = judged_elf (elf_fault exe) (elf_in exe) read
 
 -- ---- recording
 
@@ -167,7 +169,7 @@ put_under name (too_long step) = refuses (refusal.LogTooLong step)
 put_under name (no_room a b) = refuses (refusal.NoRoom a b)
 
 abbrev pub recorded_elf : Option ElfFault → Elf → (input name : List ℕ) → Effect
-recorded_elf (Some fault) elf input name = refuses (refused_elf fault)
+recorded_elf (Some fault) elf input name = refuses (refusal.Executable fault)
 recorded_elf None elf input name = put_under name (recording elf input most_steps)
 
 -- what a recording comes to over the bytes of an executable and of an input
@@ -176,19 +178,19 @@ recorded_run exe input name = recorded_elf (elf_fault exe) (elf_in exe) input na
 
 -- ---- all commands
 
--- what a request comes to over the bytes of its two files, where a log and a query are read so
-abbrev pub effect_with : Request → Result Log LogFault → Result Query ParseFault → (first second : List ℕ) → Effect
-effect_with (queries exe log sql) read query first second = judged first read query
-effect_with (records exe input log) read query first second = recorded_run first second log
+-- what a request comes to over the bytes of its two files, where all that a query rests on is read so
+abbrev pub effect_with : Request → Readings → (first second : List ℕ) → Effect
+effect_with (queries exe log sql) read first second = judged first read
+effect_with (records exe input log) read first second = recorded_run first second log
 
 -- what a request comes to over the files that are told
-abbrev pub effect_for : Option Request → Option FilesByName → Result Log LogFault → Result Query ParseFault → Effect
-effect_for None files log query = refuses (refusal.Unbuilt part.Words)
-effect_for (Some request) files log query =
+abbrev pub effect_for : Option Request → Option FilesByName → Readings → Effect
+effect_for None files read = refuses (refusal.Unbuilt part.Words)
+effect_for (Some request) files read =
     read_then (first_file request) (seen_in files (first_file request)) (λ first.
     read_then (second_file request) (seen_in files (second_file request)) (λ second.
-    effect_with request log query first second))
+    effect_with request read first second))
 
--- what the words come to over the files that are told, where the log and the query are read so
-abbrev pub effect_of : List (List ℕ) → Option FilesByName → Result Log LogFault → Result Query ParseFault → Effect
-effect_of words files log query = effect_for (request_of words) files log query
+-- what the words come to over the files that are told, where all that a query rests on is read so
+abbrev pub effect_of : List (List ℕ) → Option FilesByName → Readings → Effect
+effect_of words files read = effect_for (request_of words) files read

@@ -10,5 +10,4 @@ pub mod Reads
 pub mod Result
 pub mod Rows
 pub mod Somes
-pub mod View
 pub mod Words

@@ -1,16 +1,20 @@
 -- The lines that are told of refusals, and the exit statuses.
 use Rattle.std.specs.Prelude.{ℕ, List, [], ◌∷◌, ◌++◌, codes, decimal}
+use Rattle.om_die.specs.declared.fault.DieFault.{DieFault}
+use Rattle.om_die.specs.declared.fault.DieFault.TheVariants as die
 use Rattle.om_elf.specs.declared.fault.ElfFault.{ElfFault}
 use Rattle.om_elf.specs.declared.fault.ElfFault.TheVariants as elf
 use Rattle.om_log.specs.declared.fault.LogFault.{LogFault}
 use Rattle.om_log.specs.declared.fault.LogFault.TheVariants as log
+use Rattle.om_names.specs.declared.fault.NamesFault.{NamesFault}
+use Rattle.om_names.specs.declared.fault.NamesFault.TheVariants as names
 use Rattle.om_run.specs.declared.departure.Reason.{Reason}
 use Rattle.om_run.specs.declared.departure.Reason.TheVariants as reason
 use Rattle.om_table.specs.Escape.{escaped}
 use Rattle.om_cli.specs.declared.refusal.Part.{Part}
 use Rattle.om_cli.specs.declared.refusal.Part.TheVariants as part
 use Rattle.om_cli.specs.declared.refusal.Refusal.{Refusal}
-use Rattle.om_cli.specs.declared.refusal.Refusal.TheVariants.{Unbuilt, Executable, NoRoom, Log, Overlap, TooLong, LogTooLong, Departs}
+use Rattle.om_cli.specs.declared.refusal.Refusal.TheVariants.{Unbuilt, Executable, Debug, NoRoom, Log, Overlap, TooLong, LogTooLong, Departs}
 
 -- how the program ends
 pub data End : Type 0 where
@@ -33,6 +37,7 @@ pub data End : Type 0 where
 abbrev pub refusal_status : Refusal → ℕ
 refusal_status (Unbuilt part) = 11
 refusal_status (Executable fault) = 3
+refusal_status (Debug fault) = 4
 refusal_status (NoRoom a b) = 3
 refusal_status (Log fault) = 5
 refusal_status (Overlap a b) = 5
@@ -53,7 +58,6 @@ status_of unwritten = 9
 -- the word for a part
 abbrev pub word_of : Part → List ℕ
 word_of part.Words = codes "words"
-word_of part.Executable = codes "executable"
 word_of part.Query = codes "query"
 
 -- the words for two places that share an address
@@ -76,7 +80,22 @@ elf_words (elf.Table index) = codes "table " ++ decimal index
 elf_words (elf.Overlap a b) = overlap_words a b
 elf_words elf.TooBig = codes "too big"
 elf_words elf.NoMemory = []
-elf_words elf.Unbuilt = []
+elf_words (elf.Compressed section) = codes "compressed " ++ decimal section
+
+-- the words for a fault of a section's entries, or of a range list
+abbrev pub die_words : DieFault → List ℕ
+die_words (die.Short at) = codes "short at " ++ decimal at
+die_words (die.Abbrev at) = codes "abbrev at " ++ decimal at
+die_words (die.Form at) = codes "form at " ++ decimal at
+die_words (die.Target at) = codes "ref at " ++ decimal at
+die_words (die.TooMany at) = codes "too many at " ++ decimal at
+die_words die.NoMemory = []
+
+-- the words for a fault of debugging information: its section first
+abbrev pub debug_words : NamesFault → List ℕ
+debug_words (names.Info fault) = codes ".debug_info " ++ die_words fault
+debug_words (names.Ranges fault) = codes ".debug_ranges " ++ die_words fault
+debug_words names.NoMemory = []
 
 -- the words for a fault of a log
 abbrev pub fault_words : LogFault → List ℕ
@@ -116,6 +135,7 @@ number_words told found = codes ": log " ++ decimal told ++ codes ", run " ++ de
 unfoldable pub refusal_line : Refusal → List ℕ
 refusal_line (Unbuilt part) = codes "omni: unbuilt: " ++ word_of part
 refusal_line (Executable fault) = codes "omni: executable: " ++ elf_words fault
+refusal_line (Debug fault) = codes "omni: debug: " ++ debug_words fault
 refusal_line (NoRoom a b) = codes "omni: executable: " ++ room_words a b
 refusal_line (Log fault) = codes "omni: log: " ++ fault_words fault
 refusal_line (Overlap a b) = codes "omni: log: " ++ overlap_words a b

@@ -2,19 +2,21 @@
 use Rattle.std.specs.Prelude.{◌≡◌, ◌≢◌, ℕ, ◌<◌, slice_index, ◌⊎◌, List, Option, Some, None, Result, Ok, Err}
 use Rattle.om_io.specs.Counts.{Rose}
 use Rattle.om_io.specs.Shelf.{FilesByName}
+use Rattle.om_elf.specs.Executable.{elf_fault, elf_in}
 use Rattle.om_elf.specs.declared.fault.ElfFault.{ElfFault}
 use Rattle.om_elf.specs.declared.fault.ElfFault.TheVariants as elf
 use Rattle.om_log.specs.declared.fault.LogFault.{LogFault}
 use Rattle.om_log.specs.declared.fault.LogFault.TheVariants as log
 use Rattle.om_log.specs.declared.log.Log.{Log}
-use Rattle.om_parse.specs.declared.fault.ParseFault.{ParseFault}
-use Rattle.om_parse.specs.declared.tree.Query.{Query}
+use Rattle.om_names.specs.Information.{Information}
+use Rattle.om_names.specs.declared.fault.NamesFault.{NamesFault}
+use Rattle.om_names.specs.declared.fault.NamesFault.TheVariants as names
 use Rattle.om_record.specs.declared.recorded.Recorded.{Recorded}
 use Rattle.om_record.specs.declared.recorded.RecordFault.{RecordFault}
 use Rattle.om_record.specs.declared.recorded.RecordFault.TheVariants as recorder
-use Rattle.om_cli.specs.Command.{Request, queries, records, Effect, Seen, found, longer, untold, prints, puts, refuses, exceeds, depends, refused_elf, seen_in, summary}
+use Rattle.om_cli.specs.Command.{Request, queries, records, Effect, Seen, found, longer, untold, prints, puts, refuses, exceeds, depends, seen_in, summary}
 use Rattle.om_cli.specs.Lines.{End, refused, no_memory, unread, exceeded}
-use Rattle.om_cli.specs.Readings.{IsLogReading, IsQueryReading}
+use Rattle.om_cli.specs.Readings.{Readings, IsDebugReading, IsLogReading, IsQueryReading}
 use Rattle.om_cli.specs.declared.refusal.Refusal.{Refusal}
 use Rattle.om_cli.specs.declared.refusal.Refusal.TheVariants as refusal
 use Rattle.om_cli.specs.declared.refusal.Part.TheVariants as part
@@ -33,16 +35,26 @@ Reads seen name before now (Err (Because refusal)) = ⊥
 Reads seen name before now (Err (Unread file)) = (file.now ≡ name) × Rose before now
 Reads seen name before now (Err (Exceeded file)) = (file.now ≡ name) × ((seen ≡ longer) ⊎ (seen ≡ untold))
 
--- the log and the query are read so, where the bytes of the log are seen, and are bytes
-abbrev pub AreReadingsOf : Request → Option FilesByName → Result Log LogFault → Result Query ParseFault → Type 0
-AreReadingsOf (queries exe log sql) files read query =
-    ((bytes : List ℕ) → seen_in files log ≡ found bytes → ((i : ℕ) → slice_index bytes i < 256) → IsLogReading bytes read)
-    × IsQueryReading sql query
-AreReadingsOf (records exe input log) files read query = Unit {0}
+-- the debugging information is read so, where the bytes of the executable are seen, and it has no fault of its own
+abbrev pub IsDebugRead : Option FilesByName → List ℕ → Result Information NamesFault → Type 0
+IsDebugRead files exe read =
+    (bytes : List ℕ) → seen_in files exe ≡ found bytes → ((i : ℕ) → slice_index bytes i < 256) → elf_fault bytes ≡ None
+    → IsDebugReading (elf_in bytes) read
 
-abbrev pub AreReadings : Option Request → Option FilesByName → Result Log LogFault → Result Query ParseFault → Type 0
-AreReadings None files read query = Unit {0}
-AreReadings (Some request) files read query = AreReadingsOf request files read query
+-- the log is read so, where its bytes are seen
+abbrev pub IsLogRead : Option FilesByName → List ℕ → Result Log LogFault → Type 0
+IsLogRead files log read =
+    (bytes : List ℕ) → seen_in files log ≡ found bytes → ((i : ℕ) → slice_index bytes i < 256) → IsLogReading bytes read
+
+-- all that a query rests on is read so
+abbrev pub AreReadingsOf : Request → Option FilesByName → Readings → Type 0
+AreReadingsOf (queries exe log sql) files read =
+    IsDebugRead files exe read.debug × IsLogRead files log read.log × IsQueryReading sql read.query
+AreReadingsOf (records exe input log) files read = Unit {0}
+
+abbrev pub AreReadings : Option Request → Option FilesByName → Readings → Type 0
+AreReadings None files read = Unit {0}
+AreReadings (Some request) files read = AreReadingsOf request files read
 
 -- the answer is the text of what a query comes to, its refusal, or want of memory
 abbrev pub GivesText : Effect → Result (List ℕ) Refused → Type 0
@@ -99,7 +111,12 @@ IsAfterReads (Exceeded name) = ⊥
 -- what a fault of an executable comes to: want of memory, or a refusal
 abbrev pub refused_by_elf : ElfFault → Refused
 refused_by_elf elf.NoMemory = NoMemory
-refused_by_elf fault = Because (refused_elf fault)
+refused_by_elf fault = Because (refusal.Executable fault)
+
+-- what a fault of debugging information comes to: want of memory, or a refusal
+abbrev pub refused_by_debug : NamesFault → Refused
+refused_by_debug names.NoMemory = NoMemory
+refused_by_debug fault = Because (refusal.Debug fault)
 
 -- what a fault of a log comes to: want of memory, or a refusal
 abbrev pub refused_by : LogFault → Refused

@@ -1,12 +1,13 @@
 //! Answers a query over the bytes of an executable and of a log.
 
-ghost use Rattle.std.specs.Prelude.{◌≡◌, ◌<◌, ℕ, Result, IfErr, IfOk, IfSome, slice_index};
+ghost use Rattle.std.specs.Prelude.{◌≡◌, ◌<◌, ℕ, None, Result, IfErr, IfOk, IfSome, slice_index};
 ghost use Rattle.om_cli.specs.Named.{IsNamed};
 ghost use Rattle.om_cli.specs.Command as spec;
-ghost use Rattle.om_cli.specs.Command.{judged, judged_overlap, judged_run};
-ghost use Rattle.om_cli.specs.Readings.{IsLogReading, IsQueryReading};
+ghost use Rattle.om_cli.specs.Command.{judged, judged_log, judged_overlap, judged_run};
+ghost use Rattle.om_cli.specs.Readings.{Readings, IsDebugReading, IsLogReading, IsQueryReading};
 ghost use Rattle.om_cli.specs.Reads as reads;
 ghost use Rattle.om_cli.specs.Reads.{GivesText, IsAfterReads};
+ghost use Rattle.om_elf.specs.Executable.{elf_fault, elf_in};
 ghost use Rattle.om_elf.specs.Image.{AreLoadable};
 ghost use Rattle.om_log.specs.Grammar.{IsLawfulLog};
 ghost use Rattle.om_log.specs.declared.fault.LogFault.{LogFault};
@@ -24,6 +25,7 @@ use crate::rows::{Stopped, rows_of};
 use om_base::{NoMemory, Text};
 use om_elf::{Elf, ElfFault, read_elf};
 use om_log::{Log, LogFault, read_log};
+use om_names::{Debug, NamesFault, read_debug};
 use om_parse::{ParseFault, parse};
 use om_run::Replay;
 use om_step::MapFault;
@@ -47,18 +49,19 @@ fn read_question(alloc: Global, sql: &[u8]) -> Result<Option<Question>, NoMemory
 fn answer_run<'a>(
     alloc: Global,
     replay: &mut Replay<'_>,
+    debug: &Debug<'_>,
     question: Question,
 ) -> Result<Text, Refused<'a>>
     requires first { replay.old.step ≡ 0 }
     requires named { IsNamed question }
-    ensures text { GivesText (judged_run replay.old.entries replay.old.first question) result }
+    ensures text { GivesText (judged_run debug.now replay.old.entries replay.old.first question) result }
     ensures read { IfErr result IsAfterReads }
 {
     let steps = replay.last();
     if steps > MOST_STEPS {
         return Err(Refused::Because(Refusal::TooLong { steps }));
     }
-    let rows = match rows_of(alloc, replay, &question) {
+    let rows = match rows_of(alloc, replay, debug, &question) {
         Ok(rows) => rows,
         Err(Stopped::NoMemory) => return Err(Refused::NoMemory),
         Err(Stopped::Departs(departure)) => return Err(Refused::Because(Refusal::Departs(
@@ -79,6 +82,7 @@ fn answer_run<'a>(
 fn answer_query<'a>(
     alloc: Global,
     elf: &Elf<'_>,
+    debug: &Debug<'_>,
     log: &Log<'_>,
     sql: &[u8],
 ) -> Result<Text, Refused<'a>>
@@ -86,7 +90,7 @@ fn answer_query<'a>(
     requires lawful { IsLawfulLog log.now }
     ensures read { IfErr result IsAfterReads }
     ensures text { (query : Result Query ParseFault) → IsQueryReading sql.now query
-        → GivesText (judged_overlap (overlap_of (regions_of elf.now.segments log.now.start)) elf.now log.now (spec.question_of query)) result }
+        → GivesText (judged_overlap (overlap_of (regions_of elf.now.segments log.now.start)) elf.now debug.now log.now (spec.question_of query)) result }
 {
     let mut replay = match Replay::start(alloc, elf, log) {
         Ok(replay) => replay,
@@ -94,7 +98,7 @@ fn answer_query<'a>(
         Err(MapFault::Overlap { a, b }) => return Err(Refused::Because(Refusal::Overlap { a, b })),
     };
     match read_question(alloc, sql) {
-        Ok(Some(question)) => answer_run(alloc, &mut replay, question),
+        Ok(Some(question)) => answer_run(alloc, &mut replay, debug, question),
         Ok(None) => Err(Refused::Because(Refusal::Unbuilt(Part::Query))),
         Err(_) => Err(Refused::NoMemory),
     }
@@ -107,7 +111,6 @@ pub fn refused_by_elf<'a>(fault: ElfFault) -> Refused<'a>
 {
     match fault {
         ElfFault::NoMemory => Refused::NoMemory,
-        ElfFault::Unbuilt => Refused::Because(Refusal::Unbuilt(Part::Executable)),
         _ => Refused::Because(Refusal::Executable(fault)),
     }
 }
@@ -123,7 +126,38 @@ fn refused_by<'a>(fault: LogFault) -> Refused<'a>
     }
 }
 
-/// The text of the answer, where the parts are judged in the order executable, log, query, run.
+/// What a fault of debugging information comes to.
+fn refused_by_debug<'a>(fault: NamesFault) -> Refused<'a>
+    ensures refused { result ≡ reads.refused_by_debug fault }
+    ensures read { IsAfterReads result }
+{
+    match fault {
+        NamesFault::NoMemory => Refused::NoMemory,
+        _ => Refused::Because(Refusal::Debug(fault)),
+    }
+}
+
+/// The text of the answer to a query about the run of an executable with its debugging information.
+fn answer_log<'a>(
+    alloc: Global,
+    elf: &Elf<'_>,
+    debug: &Debug<'_>,
+    log: &[u8],
+    sql: &[u8],
+) -> Result<Text, Refused<'a>>
+    requires loadable { AreLoadable elf.now.segments }
+    ensures read { IfErr result IsAfterReads }
+    ensures text { (log_read : Result Log LogFault) (query : Result Query ParseFault) → IsLogReading log.now log_read
+        → IsQueryReading sql.now query → GivesText (judged_log elf.now debug.now log_read (spec.question_of query)) result }
+{
+    match read_log(alloc, log) {
+        Ok(log) => answer_query(alloc, elf, debug, &log, sql),
+        Err(fault) => Err(refused_by(fault)),
+    }
+}
+
+/// The text of the answer, where the parts are judged in the order executable, debugging information, log,
+/// query, run.
 #[tactic(auto, unfolding(crate::specs::Command::judged))]
 pub fn answer_text<'a>(
     alloc: Global,
@@ -132,16 +166,18 @@ pub fn answer_text<'a>(
     sql: &[u8],
 ) -> Result<Text, Refused<'a>>
     ensures read { IfErr result IsAfterReads }
-    ensures bytes { (i : ℕ) → slice_index log.now i < 256 }
-    ensures text { (log_read : Result Log LogFault) (query : Result Query ParseFault) → IsLogReading log.now log_read
-        → IsQueryReading sql.now query → GivesText (judged exe.now log_read query) result }
+    ensures exe_bytes { (i : ℕ) → slice_index exe.now i < 256 }
+    ensures log_bytes { (i : ℕ) → slice_index log.now i < 256 }
+    ensures text { (read : Readings) → (elf_fault exe.now ≡ None → IsDebugReading (elf_in exe.now) read.debug)
+        → IsLogReading log.now read.log → IsQueryReading sql.now read.query → GivesText (judged exe.now read) result }
 {
     let elf = match read_elf(alloc, exe) {
         Ok(elf) => elf,
         Err(fault) => return Err(refused_by_elf(fault)),
     };
-    match read_log(alloc, log) {
-        Ok(log) => answer_query(alloc, &elf, &log, sql),
-        Err(fault) => Err(refused_by(fault)),
-    }
+    let debug = match read_debug(alloc, &elf) {
+        Ok(debug) => debug,
+        Err(fault) => return Err(refused_by_debug(fault)),
+    };
+    answer_log(alloc, &elf, &debug, log, sql)
 }

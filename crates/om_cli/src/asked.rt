@@ -33,6 +33,17 @@ fn column_in(expr: &ExprTree<'_>) -> Option<ColumnId>
     }
 }
 
+/// The column that an expression is, if it is one whose values are numbers.
+fn number_column_in(expr: &ExprTree<'_>) -> Option<ColumnId>
+    ensures { result ≡ spec.number_column (spec.column_of expr.now) }
+{
+    let column = column_in(expr)?;
+    match column {
+        ColumnId::Func | ColumnId::File => None,
+        _ => Some(column),
+    }
+}
+
 /// The columns of some items, where each is one.
 #[tactic(auto, unfolding(crate::specs::Asked::columns_of), using(crate::proofs::SomesLemmas::none_found, crate::proofs::SomesLemmas::one_found))]
 fn columns_of(alloc: Global, mut items: &[Item<'_>]) -> Result<Option<Items<ColumnId>>, NoMemory>
@@ -79,7 +90,7 @@ fn compare_of(op: CompareOp) -> Compare
     }
 }
 
-/// The comparison that a condition is, if it is one of a column with a numeral.
+/// The comparison that a condition is, if it is one of a column of numbers with a numeral.
 #[tactic(auto, unfolding(crate::specs::Asked::comparison))]
 fn comparison(test: &CondTree<'_>) -> Option<Cond>
     ensures { result ≡ spec.comparison test.now }
@@ -96,7 +107,7 @@ fn comparison(test: &CondTree<'_>) -> Option<Cond>
     let ExprTree::Numeral(numeral) = right else {
         return None;
     };
-    let id = column_in(left)?;
+    let id = number_column_in(left)?;
     Some(Cond::Compare(
         compare_of(*op),
         Expr::Column(Column { table: 0, id }),

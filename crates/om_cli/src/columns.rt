@@ -9,10 +9,11 @@ use om_eval::ColumnId;
 
 /// The names of the columns. Those of the registers are x0 to x31 and, after them, the names of the
 /// RISC-V psABI, "Integer Register Convention".
-const COLUMNS: [(&[u8], ColumnId); 68] = [
+const COLUMNS: [(&[u8], ColumnId); 69] = [
     (b"step", ColumnId::Step),
     (b"pc", ColumnId::Pc),
     (b"insn", ColumnId::Insn),
+    (b"func", ColumnId::Func),
     (b"x0", ColumnId::Reg(0)),
     (b"x1", ColumnId::Reg(1)),
     (b"x2", ColumnId::Reg(2)),

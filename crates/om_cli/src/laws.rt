@@ -2,19 +2,26 @@
 //! are read in one way. No code is in it.
 
 ghost use Rattle.std.specs.Prelude.{◌≡◌, ◌<◌, ℕ, List, Result, slice_index};
-ghost use Rattle.om_cli.specs.Readings.{IsLogReading, IsQueryReading};
+ghost use Rattle.om_cli.specs.Readings.{IsDebugReading, IsLogReading, IsQueryReading};
+ghost use Rattle.om_elf.specs.declared.elf.Elf.{Elf};
 ghost use Rattle.om_log.specs.declared.fault.LogFault.{LogFault};
 ghost use Rattle.om_log.specs.declared.log.Log.{Log};
+ghost use Rattle.om_names.specs.Information.{Information};
+ghost use Rattle.om_names.specs.declared.fault.NamesFault.{NamesFault};
 ghost use Rattle.om_parse.specs.declared.fault.ParseFault.{ParseFault};
 ghost use Rattle.om_parse.specs.declared.tree.Query.{Query};
 
-/// Every file of bytes and every text is read in one way: as a log or a fault, and as a tree or a refusal.
+/// Every file of bytes, every text and every executable is read in one way: as a log or a fault, as a tree
+/// or a refusal, and as debugging information or a fault.
 pub fn one_meaning()
+    ensures debug { (elf : Elf) → (read : Result Information NamesFault) × IsDebugReading elf read }
     ensures log { (file : List ℕ) → ((i : ℕ) → slice_index file i < 256) → (read : Result Log LogFault) × IsLogReading file read }
     ensures query { (text : List ℕ) → (read : Result Query ParseFault) × IsQueryReading text read }
+    ensures one_debug { (elf : Elf) (a b : Result Information NamesFault) → IsDebugReading elf a → IsDebugReading elf b → a ≡ b }
     ensures one_log { (file : List ℕ) (a b : Result Log LogFault) → IsLogReading file a → IsLogReading file b → a ≡ b }
     ensures one_query { (text : List ℕ) (a b : Result Query ParseFault) → IsQueryReading text a → IsQueryReading text b → a ≡ b }
 {
+    om_names::one_debug();
     om_log::log_or_fault();
     om_log::one_reading();
     om_parse::tree_or_refusal();

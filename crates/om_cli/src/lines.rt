@@ -1,14 +1,16 @@
 //! The lines that are told of refusals.
 
 ghost use Rattle.std.specs.Prelude.{◌≡◌, [], ◌∷◌, ◌++◌, codes, decimal};
-ghost use Rattle.om_cli.specs.Lines.{elf_words, fault_words, number_words, overlap_words, reason_words, refusal_line, room_words, step_words, word_of};
+ghost use Rattle.om_cli.specs.Lines.{debug_words, die_words, elf_words, fault_words, number_words, overlap_words, reason_words, refusal_line, room_words, step_words, word_of};
 ghost use Rattle.om_io.specs.Writing.{Puts};
 
 use crate::refusal::{Part, Refusal};
 use itoa::Buffer;
+use om_die::DieFault;
 use om_elf::ElfFault;
 use om_io::{Sink, SinkFail, put_all, put_pieces};
 use om_log::LogFault;
+use om_names::NamesFault;
 use om_run::{Departure, Reason};
 
 impl Part {
@@ -18,7 +20,6 @@ impl Part {
     {
         match self {
             Part::Words => b"words",
-            Part::Executable => b"executable",
             Part::Query => b"query",
         }
     }
@@ -82,7 +83,46 @@ fn put_elf_fault<P: Sink>(sink: &mut P, fault: ElfFault) -> Result<(), SinkFail>
         ElfFault::Table { index } => put_place(sink, b"table ", u64::from(index)),
         ElfFault::Overlap { a, b } => put_overlap(sink, a, b),
         ElfFault::TooBig => put_all(sink, b"too big"),
-        ElfFault::NoMemory | ElfFault::Unbuilt => put_all(sink, b""),
+        ElfFault::Compressed { section } => put_place(sink, b"compressed ", u64::from(section)),
+        ElfFault::NoMemory => put_all(sink, b""),
+    }
+}
+
+/// Writes the words for a fault of entries or of a range list.
+fn put_die_fault<P: Sink>(sink: &mut P, fault: DieFault) -> Result<(), SinkFail>
+    ensures { Puts (P.written sink.old) (P.written sink.new) (P.faults sink.old) (P.faults sink.new)
+        (P.refused_growths sink.old) (P.refused_growths sink.new) (die_words fault) result }
+{
+    match fault {
+        DieFault::Short { at } => put_place(sink, b"short at ", u64::from(at)),
+        DieFault::Abbrev { at } => put_place(sink, b"abbrev at ", u64::from(at)),
+        DieFault::Form { at } => put_place(sink, b"form at ", u64::from(at)),
+        DieFault::Target { at } => put_place(sink, b"ref at ", u64::from(at)),
+        DieFault::TooMany { at } => put_place(sink, b"too many at ", u64::from(at)),
+        DieFault::NoMemory => put_all(sink, b""),
+    }
+}
+
+/// Writes the name of a section and the words for a fault of its entries or lists.
+fn put_section_fault<P: Sink>(sink: &mut P, section: &[u8], fault: DieFault) -> Result<(), SinkFail>
+    ensures { Puts (P.written sink.old) (P.written sink.new) (P.faults sink.old) (P.faults sink.new)
+        (P.refused_growths sink.old) (P.refused_growths sink.new) (section.now ++ die_words fault) result }
+{
+    match put_all(sink, section) {
+        Ok(()) => put_die_fault(sink, fault),
+        Err(fail) => Err(fail),
+    }
+}
+
+/// Writes the words for a fault of debugging information.
+fn put_debug_fault<P: Sink>(sink: &mut P, fault: NamesFault) -> Result<(), SinkFail>
+    ensures { Puts (P.written sink.old) (P.written sink.new) (P.faults sink.old) (P.faults sink.new)
+        (P.refused_growths sink.old) (P.refused_growths sink.new) (debug_words fault) result }
+{
+    match fault {
+        NamesFault::Info(fault) => put_section_fault(sink, b".debug_info ", fault),
+        NamesFault::Ranges(fault) => put_section_fault(sink, b".debug_ranges ", fault),
+        NamesFault::NoMemory => put_all(sink, b""),
     }
 }
 
@@ -181,6 +221,7 @@ fn put_words<P: Sink>(sink: &mut P, refusal: &Refusal) -> Result<(), SinkFail>
     match refusal {
         Refusal::Unbuilt(part) => put_pieces(sink, &[b"omni: unbuilt: ".as_slice(), part.word()]),
         Refusal::Executable(fault) => put_elf(sink, *fault),
+        Refusal::Debug(fault) => put_debug(sink, *fault),
         Refusal::NoRoom { a, b } => put_no_room(sink, *a, *b),
         Refusal::Log(fault) => put_log(sink, *fault),
         Refusal::Overlap { a, b } => put_log_overlap(sink, *a, *b),
@@ -197,6 +238,17 @@ fn put_elf<P: Sink>(sink: &mut P, fault: ElfFault) -> Result<(), SinkFail>
 {
     match put_all(sink, b"omni: executable: ") {
         Ok(()) => put_elf_fault(sink, fault),
+        Err(fail) => Err(fail),
+    }
+}
+
+/// Writes the line of a fault of debugging information, without its line end.
+fn put_debug<P: Sink>(sink: &mut P, fault: NamesFault) -> Result<(), SinkFail>
+    ensures { Puts (P.written sink.old) (P.written sink.new) (P.faults sink.old) (P.faults sink.new)
+        (P.refused_growths sink.old) (P.refused_growths sink.new) (codes "omni: debug: " ++ debug_words fault) result }
+{
+    match put_all(sink, b"omni: debug: ") {
+        Ok(()) => put_debug_fault(sink, fault),
         Err(fail) => Err(fail),
     }
 }

@@ -19,7 +19,6 @@ mod relation_tests;
 mod rows;
 #[cfg(test)]
 mod tests;
-mod view;
 mod words;
 
 use om_io::{DirShelf, StdSink};

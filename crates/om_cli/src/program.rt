@@ -1,20 +1,17 @@
 //! All that the program does, over a shelf and two sinks.
 
-ghost use Rattle.std.specs.Prelude.{◌≡◌, Result, IfErr, Some, None, List, ℕ, map, string_bytes};
+ghost use Rattle.std.specs.Prelude.{◌≡◌, IfErr, Some, None, List, ℕ, map, string_bytes};
 ghost use Rattle.om_cli.specs.Ending.{end_meant};
 ghost use Rattle.om_cli.specs.Lines.{End, line_of, status_of};
 ghost use Rattle.om_cli.specs.Command.{file_put, effect_for, effect_of, queries, records, request_of};
 ghost use Rattle.om_cli.specs.Command as spec;
 ghost use Rattle.om_cli.specs.Command.{puts};
+ghost use Rattle.om_cli.specs.Readings.{Readings};
 ghost use Rattle.om_cli.specs.Reads.{AnswersLog, AnswersText, AreReadings, AreReadingsOf, IsUnread};
 ghost use Rattle.om_cli.specs.Result.{Ends, HasCause, IsPutCause, IsSilent, ReadsFile, ReadsPair};
 ghost use Rattle.om_cli.specs.Words.{asked_by};
 ghost use Rattle.om_io.specs.Shelf.{NoneFalls};
 ghost use Rattle.om_io.specs.Writing.{Tells};
-ghost use Rattle.om_log.specs.declared.fault.LogFault.{LogFault};
-ghost use Rattle.om_log.specs.declared.log.Log.{Log};
-ghost use Rattle.om_parse.specs.declared.fault.ParseFault.{ParseFault};
-ghost use Rattle.om_parse.specs.declared.tree.Query.{Query};
 
 use crate::answer::answer_text;
 use crate::ending::Ending;
@@ -36,9 +33,9 @@ fn text_of<'a, F: Shelf>(
     log: &'a str,
     sql: &'a str,
 ) -> Result<Text, Refused<'a>>
-    ensures text { (read : Result Log LogFault) (query : Result Query ParseFault)
-        → AreReadingsOf (queries exe.now log.now sql.now) (F.told shelf.old) read query
-        → AnswersText (effect_for (Some (queries exe.now log.now sql.now)) (F.told shelf.old) read query) result }
+    ensures text { (read : Readings)
+        → AreReadingsOf (queries exe.now log.now sql.now) (F.told shelf.old) read
+        → AnswersText (effect_for (Some (queries exe.now log.now sql.now)) (F.told shelf.old) read) result }
     ensures cause { IfErr result (IsUnread (ReadsFile (Some (queries exe.now log.now sql.now)) (F.told shelf.old))
         (F.failed_takes shelf.old) (F.failed_takes shelf.new)) }
     ensures told { F.told shelf.new ≡ F.told shelf.old }
@@ -61,8 +58,8 @@ fn log_of<'a, F: Shelf>(
     exe: &'a str,
     input: &'a str,
 ) -> Result<Recorded, Refused<'a>>
-    ensures log { (name : List ℕ) (read : Result Log LogFault) (query : Result Query ParseFault)
-        → AnswersLog (effect_for (Some (records exe.now input.now name)) (F.told shelf.old) read query) name result }
+    ensures log { (name : List ℕ) (read : Readings)
+        → AnswersLog (effect_for (Some (records exe.now input.now name)) (F.told shelf.old) read) name result }
     ensures cause { IfErr result (IsUnread (ReadsPair exe.now input.now (F.told shelf.old))
         (F.failed_takes shelf.old) (F.failed_takes shelf.new)) }
     ensures told { F.told shelf.new ≡ F.told shelf.old }
@@ -88,9 +85,9 @@ fn query<'a, F: Shelf, O: Sink>(
     log: &'a str,
     sql: &'a str,
 ) -> Ending<'a>
-    ensures ends { (read : Result Log LogFault) (query : Result Query ParseFault)
-        → AreReadingsOf (queries exe.now log.now sql.now) (F.told shelf.old) read query
-        → Ends (effect_for (Some (queries exe.now log.now sql.now)) (F.told shelf.old) read query)
+    ensures ends { (read : Readings)
+        → AreReadingsOf (queries exe.now log.now sql.now) (F.told shelf.old) read
+        → Ends (effect_for (Some (queries exe.now log.now sql.now)) (F.told shelf.old) read)
         (O.written out.old) (O.written out.new) (F.told shelf.old) (F.told shelf.new) (end_meant result) }
     ensures cause { HasCause (Some (queries exe.now log.now sql.now)) (F.told shelf.old)
         (record { takes = F.failed_takes shelf.old; puts = F.failed_puts shelf.old; faults = O.faults out.old })
@@ -151,8 +148,8 @@ fn record<'a, F: Shelf, O: Sink>(
     input: &'a str,
     log: &'a str,
 ) -> Ending<'a>
-    ensures ends { (read : Result Log LogFault) (query : Result Query ParseFault)
-        → Ends (effect_for (Some (records exe.now input.now log.now)) (F.told shelf.old) read query)
+    ensures ends { (read : Readings)
+        → Ends (effect_for (Some (records exe.now input.now log.now)) (F.told shelf.old) read)
         (O.written out.old) (O.written out.new) (F.told shelf.old) (F.told shelf.new) (end_meant result) }
     ensures cause { HasCause (Some (records exe.now input.now log.now)) (F.told shelf.old)
         (record { takes = F.failed_takes shelf.old; puts = F.failed_puts shelf.old; faults = O.faults out.old })
@@ -173,9 +170,9 @@ fn serve<'a, F: Shelf, O: Sink>(
     out: &mut O,
     request: &Request<'a>,
 ) -> Ending<'a>
-    ensures ends { (read : Result Log LogFault) (query : Result Query ParseFault)
-        → AreReadingsOf (asked_by request.now) (F.told shelf.old) read query
-        → Ends (effect_for (Some (asked_by request.now)) (F.told shelf.old) read query)
+    ensures ends { (read : Readings)
+        → AreReadingsOf (asked_by request.now) (F.told shelf.old) read
+        → Ends (effect_for (Some (asked_by request.now)) (F.told shelf.old) read)
         (O.written out.old) (O.written out.new) (F.told shelf.old) (F.told shelf.new) (end_meant result) }
     ensures cause { HasCause (Some (asked_by request.now)) (F.told shelf.old)
         (record { takes = F.failed_takes shelf.old; puts = F.failed_puts shelf.old; faults = O.faults out.old })
@@ -197,9 +194,9 @@ fn run<'a, F: Shelf, O: Sink>(
     shelf: &mut F,
     out: &mut O,
 ) -> Ending<'a>
-    ensures ends { (read : Result Log LogFault) (query : Result Query ParseFault)
-        → AreReadings (request_of (map string_bytes words.now.items)) (F.told shelf.old) read query
-        → Ends (effect_of (map string_bytes words.now.items) (F.told shelf.old) read query)
+    ensures ends { (read : Readings)
+        → AreReadings (request_of (map string_bytes words.now.items)) (F.told shelf.old) read
+        → Ends (effect_of (map string_bytes words.now.items) (F.told shelf.old) read)
         (O.written out.old) (O.written out.new) (F.told shelf.old) (F.told shelf.new) (end_meant result) }
     ensures cause { HasCause (request_of (map string_bytes words.now.items)) (F.told shelf.old)
         (record { takes = F.failed_takes shelf.old; puts = F.failed_puts shelf.old; faults = O.faults out.old })
@@ -225,9 +222,9 @@ pub fn omni<F: Shelf, O: Sink, P: Sink>(
 ) -> u8
     // The status, what was printed, what the shelf holds and what was told are those of one end of the command.
     ensures ends { (end : End) × (result ≡ status_of end)
-        × ((read : Result Log LogFault) (query : Result Query ParseFault)
-        → AreReadings (request_of (map string_bytes words.now.items)) (F.told shelf.old) read query
-        → Ends (effect_of (map string_bytes words.now.items) (F.told shelf.old) read query)
+        × ((read : Readings)
+        → AreReadings (request_of (map string_bytes words.now.items)) (F.told shelf.old) read
+        → Ends (effect_of (map string_bytes words.now.items) (F.told shelf.old) read)
         (O.written out.old) (O.written out.new) (F.told shelf.old) (F.told shelf.new) end)
         × HasCause (request_of (map string_bytes words.now.items)) (F.told shelf.old)
         (record { takes = F.failed_takes shelf.old; puts = F.failed_puts shelf.old; faults = O.faults out.old })

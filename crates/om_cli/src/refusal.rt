@@ -5,6 +5,7 @@ ghost use Rattle.om_cli.specs.Lines.{refusal_status};
 
 use om_elf::ElfFault;
 use om_log::LogFault;
+use om_names::NamesFault;
 use om_run::Departure;
 
 /// A part of a command whose form isn't built.
@@ -12,8 +13,6 @@ use om_run::Departure;
 pub enum Part {
     /// The words of the command line.
     Words,
-    /// The file of the executable.
-    Executable,
     /// The text of the query.
     Query,
 }
@@ -25,6 +24,8 @@ pub enum Refusal {
     Unbuilt(Part),
     /// The executable isn't one.
     Executable(ElfFault),
+    /// The executable's debugging information can't be read.
+    Debug(NamesFault),
     /// The regions at these places of the run's list share an address, the least such pair; or both are
     /// the place of a heap that passes the last address.
     NoRoom {
@@ -62,6 +63,7 @@ impl Refusal {
         match self {
             Refusal::Unbuilt(_) => 11,
             Refusal::Executable(_) | Refusal::NoRoom { .. } => 3,
+            Refusal::Debug(_) => 4,
             Refusal::Log(_) | Refusal::Overlap { .. } => 5,
             Refusal::TooLong { .. } | Refusal::LogTooLong { .. } => 7,
             Refusal::Departs(_) => 6,

@@ -2,17 +2,18 @@
 
 ghost use Rattle.std.specs.Prelude.{◌≡◌, ◌≤◌, ◌++◌, map, IfOk, OnOk};
 ghost use Rattle.om_cli.specs.Command.{most_steps};
-ghost use Rattle.om_cli.specs.View.{row_of};
 ghost use Rattle.om_cli.specs.Rows.{GivesRows, noted, row_at, stopped};
 ghost use Rattle.om_eval.specs.Meaning.{cell_at, owned};
 ghost use Rattle.om_run.specs.Run.{end_of};
+ghost use Rattle.om_view.specs.Row.{row_of};
 
 use crate::asked::Question;
-use crate::view::View;
 use om_base::{Items, NoMemory, Text};
 use om_eval::{ColumnId, Owned, RowView, Truth, Value, truth_of};
+use om_names::Debug;
 use om_run::{Departure, Halt, Replay};
 use om_step::StepMeter;
+use om_view::View;
 use std::alloc::Global;
 
 /// Why there are no rows.
@@ -37,7 +38,7 @@ impl From<NoMemory> for Stopped {
 
 /// The cell of a row at a column, NULL past the 32 registers.
 fn cell<'a>(view: &'a View<'_>, column: ColumnId) -> Value<'a>
-    ensures { owned result ≡ cell_at (row_of view.now.machine.now.state view.now.step) column }
+    ensures { owned result ≡ cell_at (row_of view.now.debug.now view.now.machine.now.state view.now.step) column }
 {
     match column {
         ColumnId::Reg(number) if number >= 32 => Value::Null,
@@ -58,7 +59,7 @@ fn kept(alloc: Global, value: &Value<'_>) -> Result<Owned, NoMemory>
 
 /// The cells of a row, one for each column.
 fn cells(alloc: Global, view: &View<'_>, columns: &[ColumnId]) -> Result<Items<Owned>, NoMemory>
-    ensures { IfOk result (λ cells. cells ≡ map (cell_at (row_of view.now.machine.now.state view.now.step)) columns.now) }
+    ensures { IfOk result (λ cells. cells ≡ map (cell_at (row_of view.now.debug.now view.now.machine.now.state view.now.step)) columns.now) }
 {
     let mut cells = Items::new(alloc);
     for column in columns {
@@ -72,12 +73,14 @@ fn note(
     alloc: Global,
     rows: &mut Items<Items<Owned>>,
     replay: &Replay<'_>,
+    debug: &Debug<'_>,
     question: &Question,
 ) -> Result<(), NoMemory>
-    ensures ok { OnOk result (rows.new ≡ rows.old ++ noted question.now (row_at replay.now.entries replay.now.first replay.now.step)) }
+    ensures ok { OnOk result (rows.new ≡ rows.old ++ noted question.now (row_at debug.now replay.now.entries replay.now.first replay.now.step)) }
 {
     let view = View {
         machine: replay.machine(),
+        debug,
         step: replay.position(),
     };
     if truth_of(&question.filter, &view) == Truth::Yes {
@@ -102,16 +105,17 @@ fn stopped_by(halt: Halt) -> Option<Stopped>
 pub fn rows_of(
     alloc: Global,
     replay: &mut Replay<'_>,
+    debug: &Debug<'_>,
     question: &Question,
 ) -> Result<Items<Items<Owned>>, Stopped>
     requires first { replay.old.step ≡ 0 }
     requires few { (end_of replay.old.entries).step ≤ most_steps }
-    ensures { GivesRows replay.old.entries replay.old.first question.now result }
+    ensures { GivesRows debug.now replay.old.entries replay.old.first question.now result }
 {
     let mut meter = StepMeter::new();
     let mut rows = Items::new(alloc);
     loop {
-        note(alloc, &mut rows, replay, question)?;
+        note(alloc, &mut rows, replay, debug, question)?;
         match replay.advance(&mut meter) {
             Ok(_) => {}
             Err(halt) => {

@@ -177,8 +177,8 @@ fn each_refusal_is_told(rt: HostRuntime) -> Result<(), Fail> {
             SQL,
             byte_at(48, 1),
             None,
-            11,
-            b"omni: unbuilt: executable\n",
+            3,
+            b"omni: executable: table 1\n",
         ),
         (
             "query",
@@ -222,7 +222,7 @@ fn each_refusal_is_told(rt: HostRuntime) -> Result<(), Fail> {
         ),
         (
             "query",
-            "SELECT func FROM states",
+            "SELECT line FROM states",
             None,
             None,
             11,
@@ -246,7 +246,7 @@ fn each_refusal_is_told(rt: HostRuntime) -> Result<(), Fail> {
         ),
         (
             "query",
-            "SELECT func FROM states",
+            "SELECT line FROM states",
             None,
             byte_at(13, 0),
             5,

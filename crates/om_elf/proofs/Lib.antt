@@ -1,3 +1,6 @@
 pub mod ListLemmas
-pub mod OverlapLemmas
+pub mod TableLemmas
+pub mod BlockLemmas
+pub mod DisjointLemmas
+pub mod SegmentLemmas
 pub mod ExecutableLemmas

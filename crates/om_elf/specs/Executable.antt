@@ -1,14 +1,16 @@
 -- Which files can be read as executables, what is wrong with the others, and what an executable gives.
-use Rattle.std.specs.Prelude.{ℕ, ◌+◌, ◌*◌, ◌%◌, ◌^◌, Bool, ◌&&◌, ◌||◌, not, nat_eq, nat_le, bit_and, if◌then◌else◌, List, [], ◌∷◌, ◌++◌, length, map, filter, position, sum_by, take, drop, slice_index, Option, Some, None}
-use Rattle.std.specs.Option.{option_map, option_or}
-use Rattle.om_elf.specs.Image.{Image}
-use Rattle.om_elf.specs.Headers.{file_header, program_headers}
-use Rattle.om_elf.specs.Overlap.{is_load, overlap_of}
+use Rattle.std.specs.Prelude.{ℕ, ◌+◌, ◌*◌, Bool, ◌&&◌, ◌||◌, nat_eq, nat_le, bit_and, if◌then◌else◌, List, [], ◌∷◌, ◌++◌, length, position, slice_index, Option, Some, None}
+use Rattle.std.specs.Option.{option_map}
+use Rattle.om_base.specs.Firsts.{first_of}
+use Rattle.om_base.specs.Spans.{overlap_of}
+use Rattle.om_elf.specs.Headers.{file_header, programs_of, sections_of}
+use Rattle.om_elf.specs.Sections.{has_names, is_compressed, is_unreadable, names_of, pieces_from}
+use Rattle.om_elf.specs.Segments.{images_of, is_misplaced, memory_of, spans_of}
 use Rattle.om_elf.specs.declared.elf.Elf.{Elf}
 use Rattle.om_elf.specs.declared.fault.ElfFault.{ElfFault}
-use Rattle.om_elf.specs.declared.fault.ElfFault.TheVariants.{Short, Magic, Class, Kind, Machine, Flags, Table, Overlap, TooBig, Unbuilt}
+use Rattle.om_elf.specs.declared.fault.ElfFault.TheVariants.{Short, Magic, Class, Kind, Machine, Flags, Table, Overlap, TooBig, Compressed}
 use Rattle.om_elf.specs.declared.file_header.FileHeader.{FileHeader}
-use Rattle.om_elf.specs.declared.program_header.ProgramHeader.{ProgramHeader}
+use Rattle.om_elf.specs.declared.tables.Tables.{Tables}
 
 -- ---- the ELF header
 
@@ -26,9 +28,14 @@ abbrev pub has_flags : FileHeader → Bool
 has_flags h = nat_eq (bit_and h.e_flags 15) 0
 
 -- there are no program headers, or each has 32 bytes, and the file holds all of them
-abbrev pub has_table : List ℕ → FileHeader → Bool
-has_table file h =
+abbrev pub has_programs : List ℕ → FileHeader → Bool
+has_programs file h =
     nat_eq h.e_phnum 0 || (nat_eq h.e_phentsize 32 && nat_le (h.e_phoff + 32 * h.e_phnum) (length file))
+
+-- there are no section headers, or each has 40 bytes, and the file holds all of them
+abbrev pub has_sections : List ℕ → FileHeader → Bool
+has_sections file h =
+    nat_eq h.e_shnum 0 || (nat_eq h.e_shentsize 40 && nat_le (h.e_shoff + 40 * h.e_shnum) (length file))
 
 -- a rule's fault, where it is broken
 abbrev pub unless : Bool → ElfFault → Option ElfFault
@@ -43,62 +50,44 @@ header_faults file h =
     ∷ unless (nat_eq h.e_type 2) Kind
     ∷ unless (nat_eq h.e_machine 243) Machine
     ∷ unless (has_flags h) Flags
-    ∷ unless (has_table file h) (Table 0)
-    ∷ unless (nat_eq h.e_shnum 0) Unbuilt
+    ∷ unless (has_programs file h) (Table 0)
+    ∷ unless (has_sections file h) (Table 1)
+    ∷ unless (has_names file h) (Table 2)
     ∷ []
 
--- ---- the program headers
+-- ---- the tables
 
--- a loadable segment's bytes lie in the file and fill at most its memory, which ends in the address space
-abbrev pub has_place : List ℕ → ProgramHeader → Bool
-has_place file p =
-    nat_le (p.p_offset + p.p_filesz) (length file) && nat_le p.p_filesz p.p_memsz && nat_le (p.p_vaddr + p.p_memsz) (2 ^ 32)
+-- the tables that an ELF header leads to
+abbrev pub tables_of : List ℕ → FileHeader → Tables
+tables_of file h = record { programs = programs_of file h; sections = sections_of file h; names = names_of file h }
 
--- a program header is of type PT_LOAD, and its segment has no place
-abbrev pub is_misplaced : List ℕ → ProgramHeader → Bool
-is_misplaced file p = is_load p && not (has_place file p)
-
--- how much memory the loadable segments take
-abbrev pub memory_of : List ProgramHeader → ℕ
-memory_of programs = sum_by (λ p. p.p_memsz) (filter is_load programs)
-
--- what each rule of the program headers says, in their order
-abbrev pub program_faults : List ℕ → List ProgramHeader → List (Option ElfFault)
-program_faults file programs =
-    option_map (λ place. Table (100 + place)) (position (is_misplaced file) programs)
-    ∷ option_map (λ pair. Overlap pair.0 pair.1) (overlap_of programs)
-    ∷ unless (nat_le (memory_of programs) 33554432) TooBig
+-- what each rule of their headers says, in their order
+abbrev pub table_faults : List ℕ → Tables → List (Option ElfFault)
+table_faults file t =
+    option_map (λ place. Table (100 + place)) (position (is_misplaced file) t.programs)
+    ∷ option_map (λ place. Table (100000 + place)) (position (is_unreadable file t.names) t.sections)
+    ∷ option_map (λ pair. Overlap pair.0 pair.1) (overlap_of (spans_of t.programs))
+    ∷ unless (nat_le (memory_of t.programs) 33554432) TooBig
+    ∷ option_map (λ place. Compressed place) (position (is_compressed t.names) t.sections)
     ∷ []
 
 -- ---- the whole file
 
--- the first fault of some rules
-abbrev pub first_fault : List (Option ElfFault) → Option ElfFault
-first_fault [] = None
-first_fault (rule ∷ rules) = option_or rule (first_fault rules)
+-- the tables of a file
+unfoldable pub tables_in : List ℕ → Tables
+tables_in file = tables_of file (file_header file)
 
 -- the fault of a file: that of the first rule that it breaks
 unfoldable pub elf_fault : List ℕ → Option ElfFault
-elf_fault file =
-    first_fault (header_faults file (file_header file) ++ program_faults file (program_headers file))
-
--- what a program header puts into memory
-abbrev pub image_of : List ℕ → ProgramHeader → Image
-image_of file p = record {
-  vaddr = p.p_vaddr;
-  memsz = p.p_memsz;
-  rights = p.p_flags % 8;
-  bytes = take p.p_filesz (drop p.p_offset file);
-}
-
--- what the program headers of type PT_LOAD put into memory, in their order
-abbrev pub images_of : List ℕ → List ProgramHeader → List Image
-images_of file programs = map (image_of file) (filter is_load programs)
+elf_fault file = first_of (header_faults file (file_header file) ++ table_faults file (tables_in file))
 
 -- the executable in a file that has no fault
 unfoldable pub elf_in : List ℕ → Elf
-elf_in file = record {
-  entry = (file_header file).e_entry;
-  flags = (file_header file).e_flags;
-  segments = images_of file (program_headers file);
-}
+elf_in file =
+    let tables = tables_in file in
+    record {
+      entry = (file_header file).e_entry;
+      flags = (file_header file).e_flags;
+      segments = images_of file tables.programs;
+      sections = pieces_from file tables.names 0 tables.sections;
+    }

@@ -1,5 +1,9 @@
 pub mod Image
+pub mod Piece
 pub mod Headers
-pub mod Overlap
+pub mod Segments
+pub mod Sections
+pub mod Blocks
+pub mod Disjoint
 pub mod Executable
 pub mod Gives

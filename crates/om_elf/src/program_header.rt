@@ -1,11 +1,10 @@
 //! A program header: the gABI, chapter 5, "Program Header".
 
 ghost use Rattle.std.specs.Prelude.{◌≡◌, ◌+◌, ◌^◌, ◌<◌};
-ghost use Rattle.om_elf.specs.Executable.{has_place, is_misplaced};
-ghost use Rattle.om_elf.specs.Overlap.{is_load, shares};
+ghost use Rattle.om_elf.specs.Segments.{has_place, is_load, is_misplaced, span_of};
 
-use crate::file_header::word_at;
-use std::cmp;
+use crate::field::word_at;
+use om_base::Span;
 
 /// The fields of a program header, but for `p_paddr` and `p_align`, which are not looked at.
 #[derive(Clone, Copy, Debug)]
@@ -72,12 +71,17 @@ impl ProgramHeader {
         self.is_load() && !self.has_place(file)
     }
 
-    /// Whether both are loaded into memory and share an address there.
-    pub fn shares(&self, other: &ProgramHeader) -> bool
-        ensures { result ≡ shares self.now other.now }
+    /// The addresses of the segment's memory; none where it isn't loaded.
+    pub fn span(&self) -> Span
+        ensures { result ≡ span_of self.now }
     {
-        self.is_load()
-            && other.is_load()
-            && u64::from(cmp::max(self.p_vaddr, other.p_vaddr)) < cmp::min(self.end(), other.end())
+        if self.is_load() {
+            Span {
+                lo: u64::from(self.p_vaddr),
+                hi: self.end(),
+            }
+        } else {
+            Span { lo: 0, hi: 0 }
+        }
     }
 }

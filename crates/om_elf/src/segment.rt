@@ -1,7 +1,7 @@
 //! A loadable segment: the gABI, chapter 5, "Segment Contents".
 
 ghost use Rattle.std.specs.Prelude.{◌≡◌, IsTrue};
-ghost use Rattle.om_elf.specs.Executable.{has_place, image_of};
+ghost use Rattle.om_elf.specs.Segments.{has_place, image_of};
 ghost use Rattle.om_elf.specs.Image.{Image};
 
 use crate::program_header::ProgramHeader;

@@ -1,20 +1,35 @@
-use Rattle.std.proofs.Common.{arith}
-use Rattle.om_cli.proofs.AnswerLemmas.{elf_refused, log_refused, only_fault}
+use Rattle.std.proofs.Common.{◌≡◌, sym, subst, arith, None}
+use Rattle.om_cli.proofs.AnswerLemmas.{debug_given, debug_refused, elf_refused, only_fault, only_thing}
+use Rattle.om_cli.specs.Command.{judged_log, question_of}
+use Rattle.om_cli.specs.Readings.{IsDebugReading}
+use Rattle.om_cli.specs.Reads.{GivesText}
 use Rattle.om_cli.proofs.answer.answer_text.Goals as goal
+use Rattle.om_elf.specs.Executable.{elf_fault}
+use Rattle.om_elf.specs.declared.elf.Elf.{Elf}
+use Rattle.om_names.specs.Reading.{IsLawful, IsRefused}
+use Rattle.om_names.specs.declared.fault.NamesFault.TheVariants as names
 
 pub returns-in-Err-clause-text : goal.returns-in-Err-clause-text
 returns-in-Err-clause-text c =
-    λ read query is of. rw c.refused_by_elf.ensures.refused (elf_refused c.args.exe.now c.in-Err.fault read query c.in-Err.ensures.gives)
+    λ read debug log query. rw c.refused_by_elf.ensures.refused (elf_refused c.args.exe.now c.in-Err.fault read c.in-Err.ensures.gives)
+
+pub returns-in-Err-read_debug-clause-text : goal.returns-in-Err-read_debug-clause-text
+returns-in-Err-read_debug-clause-text c =
+    let none : elf_fault c.args.exe.now ≡ None = c.in-Ok.ensures.gives.0 in
+    λ read debug log query.
+    rw c.refused_by_debug.ensures.refused
+    (debug_refused c.args.exe.now c.in-Err-read_debug.fault read none
+    (only_fault (IsLawful c.in-Ok.elf) (IsRefused c.in-Ok.elf) names.NoMemory c.in-Err-read_debug.fault read.debug
+    c.in-Err-read_debug.ensures.reads c.in-Err-read_debug.ensures.refuses
+    (subst (λ (elf : Elf). IsDebugReading elf read.debug) (sym c.in-Ok.ensures.gives.1) (debug none))))
 
 pub returns-clause-text : goal.returns-clause-text
 returns-clause-text c =
-    λ read query is of.
-    rw c.refused_by.ensures.refused
-    (log_refused c.args.exe.now c.in-Err-read_log.fault read query c.in-Ok.ensures.gives.0
-    (only_fault c.args.log.now c.in-Err-read_log.fault read c.in-Err-read_log.ensures.reads c.in-Err-read_log.ensures.refuses is))
-
-pub returns-in-Err-clause-bytes : goal.returns-in-Err-clause-bytes
-returns-in-Err-clause-bytes c = λ i. omega (arith, c.type_inv.log i)
-
-pub returns-clause-bytes : goal.returns-clause-bytes
-returns-clause-bytes c = λ i. omega (arith, c.type_inv.log i)
+    let none : elf_fault c.args.exe.now ≡ None = c.in-Ok.ensures.gives.0 in
+    λ read debug log query.
+    debug_given c.args.exe.now c.in-Ok-read_debug.debug read c.answer_log.result none
+    (only_thing (IsLawful c.in-Ok.elf) (IsRefused c.in-Ok.elf) names.NoMemory c.in-Ok-read_debug.debug read.debug
+    c.in-Ok-read_debug.ensures.reads c.in-Ok-read_debug.ensures.refuses
+    (subst (λ (elf : Elf). IsDebugReading elf read.debug) (sym c.in-Ok.ensures.gives.1) (debug none)))
+    (subst (λ (elf : Elf). GivesText (judged_log elf c.in-Ok-read_debug.debug read.log (question_of read.query)) c.answer_log.result) c.in-Ok.ensures.gives.1
+    (c.answer_log.ensures.text read.log read.query log query))

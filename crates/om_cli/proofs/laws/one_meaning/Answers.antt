@@ -2,10 +2,34 @@ use Rattle.std.proofs.Common.{◌≡◌, ap, inl, inr, Ok, Err}
 use Rattle.std.specs.Prelude.{Result}
 use Rattle.om_log.specs.declared.fault.LogFault.{LogFault}
 use Rattle.om_log.specs.declared.log.Log.{Log}
+use Rattle.om_names.specs.Information.{Information}
+use Rattle.om_names.specs.declared.fault.NamesFault.{NamesFault}
 use Rattle.om_parse.specs.declared.fault.ParseFault.{ParseFault}
 use Rattle.om_parse.specs.declared.tree.Query.{Query}
-use Rattle.om_cli.specs.Readings.{IsLogReading, IsQueryReading}
+use Rattle.om_cli.specs.Readings.{IsDebugReading, IsLogReading, IsQueryReading}
 use Rattle.om_cli.proofs.laws.one_meaning.Goals as goal
+
+pub returns-clause-debug : goal.returns-clause-debug
+returns-clause-debug c =
+    λ elf.
+    elim (c.one_debug.ensures.total elf) as (λ _. (read : Result Information NamesFault) × IsDebugReading elf read) [
+      | inl info ↦ (Ok info.0, info.1)
+      | inr fault ↦ (Err fault.0, fault.1)
+    ]
+
+pub returns-clause-one_debug : goal.returns-clause-one_debug
+returns-clause-one_debug c =
+    λ elf a b.
+    elim a as (λ r. IsDebugReading elf r → IsDebugReading elf b → r ≡ b) [
+      | Ok info ↦ elim b as (λ r. IsDebugReading elf (Ok info) → IsDebugReading elf r → ◌≡◌ {A = Result Information NamesFault} (Ok info) r) [
+        | Ok other ↦ λ is too. ap (λ i. Ok i) (c.one_debug.ensures.information elf info other is too)
+        | Err fault ↦ λ is too. absurd (c.one_debug.ensures.apart elf info fault is too)
+      ]
+      | Err fault ↦ elim b as (λ r. IsDebugReading elf (Err fault) → IsDebugReading elf r → ◌≡◌ {A = Result Information NamesFault} (Err fault) r) [
+        | Ok info ↦ λ is too. absurd (c.one_debug.ensures.apart elf info fault too is)
+        | Err other ↦ λ is too. ap (λ f. Err f) (c.one_debug.ensures.refusal elf fault other is too)
+      ]
+    ]
 
 pub returns-clause-log : goal.returns-clause-log
 returns-clause-log c =

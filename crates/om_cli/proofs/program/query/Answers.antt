@@ -5,10 +5,10 @@ use Rattle.om_cli.proofs.program.query.Goals as goal
 
 pub returns-in-Err-clause-ends : goal.returns-in-Err-clause-ends
 returns-in-Err-clause-ends g c =
-    λ read query of.
+    λ read of.
     rw c.ending.ensures
-    (refused_ends (effect_for (Some (queries c.args.exe.now c.args.log.now c.args.sql.now)) (g.F.Shelf.told c.args.shelf.now) read query) c.in-Err.refused (g.O.Sink.written c.args.out.now) (g.F.Shelf.told c.args.shelf.now) (g.F.Shelf.told c.text_of.new.shelf)
-    (c.in-Err.ensures.text read query of) c.in-Err.ensures.told)
+    (refused_ends (effect_for (Some (queries c.args.exe.now c.args.log.now c.args.sql.now)) (g.F.Shelf.told c.args.shelf.now) read) c.in-Err.refused (g.O.Sink.written c.args.out.now) (g.F.Shelf.told c.args.shelf.now) (g.F.Shelf.told c.text_of.new.shelf)
+    (c.in-Err.ensures.text read of) c.in-Err.ensures.told)
 
 pub returns-in-Err-clause-cause : goal.returns-in-Err-clause-cause
 returns-in-Err-clause-cause g c =

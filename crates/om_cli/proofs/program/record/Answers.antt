@@ -5,10 +5,10 @@ use Rattle.om_cli.proofs.program.record.Goals as goal
 
 pub returns-in-Err-clause-ends : goal.returns-in-Err-clause-ends
 returns-in-Err-clause-ends g c =
-    λ read query.
+    λ read.
     rw c.ending.ensures
-    (refused_ends (effect_for (Some (records c.args.exe.now c.args.input.now c.args.log.now)) (g.F.Shelf.told c.args.shelf.now) read query) c.in-Err.refused (g.O.Sink.written c.args.out.now) (g.F.Shelf.told c.args.shelf.now) (g.F.Shelf.told c.log_of.new.shelf)
-    (c.in-Err.ensures.log c.args.log.now read query) c.in-Err.ensures.told)
+    (refused_ends (effect_for (Some (records c.args.exe.now c.args.input.now c.args.log.now)) (g.F.Shelf.told c.args.shelf.now) read) c.in-Err.refused (g.O.Sink.written c.args.out.now) (g.F.Shelf.told c.args.shelf.now) (g.F.Shelf.told c.log_of.new.shelf)
+    (c.in-Err.ensures.log c.args.log.now read) c.in-Err.ensures.told)
 
 pub returns-in-Err-clause-cause : goal.returns-in-Err-clause-cause
 returns-in-Err-clause-cause g c =

@@ -14,7 +14,7 @@ loop-rows-preserved c =
       first = c.loop-rows.invariant.first;
       within = omega arith;
       going = first_departure-next c.args.replay.now.entries c.args.replay.now.first c.loop-rows.replay.step c.loop-rows.invariant.going (at_place c.loop-rows.replay c.args.replay.now.entries c.args.replay.now.first _ c.loop-rows.invariant.entries c.loop-rows.invariant.first on.0);
-      kept = kept-next c.loop-rows.replay c.args.replay.now.entries c.args.replay.now.first c.args.question.now c.loop-rows.rows _ c.loop-rows.invariant.entries c.loop-rows.invariant.first c.loop-rows.invariant.kept c.in_ok-note.ensures.ok;
+      kept = kept-next c.args.debug.now c.loop-rows.replay c.args.replay.now.entries c.args.replay.now.first c.args.question.now c.loop-rows.rows _ c.loop-rows.invariant.entries c.loop-rows.invariant.first c.loop-rows.invariant.kept c.in_ok-note.ensures.ok;
       metered = omega arith;
     })
 
@@ -27,11 +27,11 @@ pub returns-in-None : goal.returns-in-None
 returns-in-None c =
     let end = is_end c.in-Err.halt (sym c.in-None.ensures) in
     let verdict = rw end at c.in-Err.ensures.verdict in
-    finished c.loop-rows.replay c.args.replay.now.entries c.args.replay.now.first c.args.question.now _ c.loop-rows.invariant.entries c.loop-rows.invariant.first c.loop-rows.invariant.within c.loop-rows.invariant.going
-    (kept-next c.loop-rows.replay c.args.replay.now.entries c.args.replay.now.first c.args.question.now c.loop-rows.rows _ c.loop-rows.invariant.entries c.loop-rows.invariant.first c.loop-rows.invariant.kept c.in_ok-note.ensures.ok)
+    finished c.args.debug.now c.loop-rows.replay c.args.replay.now.entries c.args.replay.now.first c.args.question.now _ c.loop-rows.invariant.entries c.loop-rows.invariant.first c.loop-rows.invariant.within c.loop-rows.invariant.going
+    (kept-next c.args.debug.now c.loop-rows.replay c.args.replay.now.entries c.args.replay.now.first c.args.question.now c.loop-rows.rows _ c.loop-rows.invariant.entries c.loop-rows.invariant.first c.loop-rows.invariant.kept c.in_ok-note.ensures.ok)
     (sym verdict)
 
 pub returns-in-Some : goal.returns-in-Some
 returns-in-Some c =
-    gives_stop c.loop-rows.replay c.args.replay.now.entries c.args.replay.now.first c.args.question.now c.in-Err.halt c.in-Some.stopped (sym c.in-Some.ensures)
+    gives_stop c.args.debug.now c.loop-rows.replay c.args.replay.now.entries c.args.replay.now.first c.args.question.now c.in-Err.halt c.in-Some.stopped (sym c.in-Some.ensures)
     c.loop-rows.invariant.entries c.loop-rows.invariant.first c.loop-rows.invariant.within c.loop-rows.invariant.going (sym c.in-Err.ensures.verdict)

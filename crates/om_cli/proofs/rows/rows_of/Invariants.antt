@@ -12,7 +12,7 @@ invariant-loop-rows l = record {
   first : l.replay.first ≡ l.fn.replay.first;
   within : l.replay.step ≤ (end_of l.fn.replay.entries).step;
   going : first_departure l.fn.replay.entries l.fn.replay.first (below l.replay.step) ≡ None;
-  kept : l.rows ≡ kept_of l.question (rows_before l.fn.replay.entries l.fn.replay.first l.replay.step);
+  kept : l.rows ≡ kept_of l.question (rows_before l.debug l.fn.replay.entries l.fn.replay.first l.replay.step);
   metered : l.meter ≡ l.replay.step;
 }
 

@@ -1,0 +1,17 @@
+use Rattle.std.proofs.Common.{ap, leb, ◌∙◌, arith, rules}
+use Rattle.std.proofs.lemmas.List.Sorted.{IsPartitionPoint-from_clause, IsPartitionedBy-leb}
+use Rattle.om_names.proofs.PieceLemmas.{at_none, at_some, rising}
+use Rattle.om_names.proofs.pieces.owner_at.Goals as goal
+
+pub returns-then-place-eq0 : goal.returns-then-place-eq0
+returns-then-place-eq0 c =
+    let parted = IsPartitionedBy-leb (λ p. p.from) c.args.pieces.now c.args.pc (rising 0 c.args.pieces.now c.requires) in
+    at_none c.args.pieces.now c.args.pc c.partition_point-place.result c.if-place-eq0.true
+    (IsPartitionPoint-from_clause (λ p. leb p.from c.args.pc) _ _ c.partition_point-place.ensures.partitioned parted (λ a r q k. search rules))
+
+pub returns : goal.returns
+returns c =
+    let parted = IsPartitionedBy-leb (λ p. p.from) c.args.pieces.now c.args.pc (rising 0 c.args.pieces.now c.requires) in
+    c.again.ensures
+    ∙ at_some c.args.pieces.now c.args.pc c.partition_point-place.result c.index-pieces-place.result (omega arith) c.partition_point-place.ensures.bound
+    (IsPartitionPoint-from_clause (λ p. leb p.from c.args.pc) _ _ c.partition_point-place.ensures.partitioned parted (λ a r q k. search rules))

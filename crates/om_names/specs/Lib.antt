@@ -1,0 +1,10 @@
+pub mod Information
+pub mod Ranges
+pub mod Functions
+pub mod Reading
+pub mod Index
+pub mod Merging
+pub mod Names
+pub mod Ends
+pub mod Walk
+pub mod Known

@@ -1,0 +1,63 @@
+//! The row of the relation `states` at a state of the machine.
+
+ghost use Rattle.std.specs.Prelude.{◌≡◌};
+ghost use Rattle.om_eval.specs.Meaning.{owned};
+ghost use Rattle.om_view.specs.Row as spec;
+ghost use Rattle.om_view.specs.Row.{row_of};
+
+use om_base::Name;
+use om_eval::{ColumnId, RowView, Value};
+use om_names::Debug;
+use om_step::Machine;
+
+/// The row of a state, of which nothing is computed before it is asked for.
+#[derive(Debug, Drop)]
+pub struct View<'a> {
+    /// The machine in that state.
+    pub machine: &'a Machine,
+    /// The debugging information of its executable.
+    pub debug: &'a Debug<'a>,
+    /// How many steps led to it.
+    pub step: u64,
+}
+
+/// A number, NULL where there is none.
+fn value(number: Option<u32>) -> Value<'static>
+    ensures { owned result ≡ spec.value_of number }
+{
+    match number {
+        Some(number) => Value::Int(i128::from(number)),
+        None => Value::Null,
+    }
+}
+
+/// A name, NULL where there is none.
+fn text(name: Option<Name<'_>>) -> Value<'_>
+    ensures { owned result ≡ spec.text_of name.entry }
+{
+    match name {
+        Some(name) => Value::Text(name),
+        None => Value::Null,
+    }
+}
+
+impl RowView for View<'_> {
+    ghost answers = { λ view. row_of view.debug.now view.machine.now.state view.step };
+
+    #[inline(always)] // so that its value goes through no memory
+    fn cell(&self, column: ColumnId) -> Value<'_> {
+        match column {
+            ColumnId::Step => Value::Int(i128::from(self.step)),
+            ColumnId::Pc => value(Some(self.machine.pc())),
+            ColumnId::Insn => value(self.machine.memory().number(self.machine.pc(), 4)),
+            ColumnId::Reg(number) => value(Some(self.machine.reg(number))),
+            ColumnId::Func => text(self.debug.func_at(self.machine.pc())),
+            // Nothing of these is read.
+            ColumnId::File | ColumnId::Line | ColumnId::Var(_) => Value::Null,
+        }
+    }
+
+    fn mem(&self, addr: u32, width: u8) -> Value<'_> {
+        value(self.machine.memory().number(addr, width))
+    }
+}
