@@ -150,7 +150,7 @@ pub text_given : (exe log sql : List ℕ) (files : Option FilesByName) (program 
     → IsMet (seen_in files exe) program → IsMet (seen_in files log) run → AreReadingsOf (queries exe log sql) files read
     → ((i : ℕ) → slice_index program i < 256) → ((i : ℕ) → slice_index run i < 256)
     → ((r : Readings) → (elf_fault program ≡ None → IsDebugReading (elf_in program) r.debug) → IsLogReading run r.log → IsQueryReading sql r.query
-        → GivesText (judged program r) result)
+    → GivesText (judged program r) result)
     → AnswersText (effect_for (Some (queries exe log sql)) files read) result
 text_given exe log sql files program run read result (inr unseen) run_met readings exe_bytes run_bytes answers = rw unseen (text_depends result)
 text_given exe log sql files program run read result (inl seen) (inr unseen) readings exe_bytes run_bytes answers = rw (seen, unseen) (text_depends result)

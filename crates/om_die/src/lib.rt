@@ -26,10 +26,10 @@ mod sections;
 mod settling;
 mod skipped;
 mod table;
-mod tables;
-mod targets;
 #[cfg(test)]
 mod table_tests;
+mod tables;
+mod targets;
 mod unit;
 #[cfg(test)]
 mod unit_tests;
