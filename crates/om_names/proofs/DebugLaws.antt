@@ -1,5 +1,5 @@
 -- Debugging information is read in one way.
-use Rattle.std.proofs.Common.{◌≡◌, ℕ, Bool, true, false, cond, List, [], ◌∷◌, ◌++◌, length, get_or, Option, Some, None, codes, refl, sym, ap, ◌∙◌, ◌⊎◌, inl, inr, arith}
+use Rattle.std.proofs.Common.{◌≡◌, ℕ, Bool, true, false, cond, List, [], ◌∷◌, ◌++◌, Option, Some, None, codes, refl, sym, ap, ◌∙◌, ◌⊎◌, inl, inr}
 use Rattle.std.specs.Prelude.{All, find}
 use Rattle.std.specs.Option.{option_and_then, option_or}
 use Rattle.std.proofs.lemmas.List.Elements.{All-head, All-tail}
@@ -9,11 +9,11 @@ use Rattle.om_die.specs.Units.{AreUnits, Sections}
 use Rattle.om_die.specs.declared.fault.DieFault.{DieFault}
 use Rattle.om_die.specs.declared.unit.Units.{Units}
 use Rattle.om_elf.specs.declared.elf.Elf.{Elf}
-use Rattle.om_names.specs.Functions.{func_at, function_at, holds, name_of}
+use Rattle.om_names.specs.Functions.{func_at, holds, name_of}
 use Rattle.om_names.specs.Information.{Entry, Information, entries_of, section, unit_sections}
 use Rattle.om_names.specs.Known.{info_of}
 use Rattle.om_names.specs.Ranges.{first_range_fault}
-use Rattle.om_names.specs.Reading.{HasRangeFault, HasUnitFault, IsInformation, IsLawful, IsRefused}
+use Rattle.om_names.specs.Reading.{HasRangeFault, IsInformation, IsLawful, IsRefused}
 use Rattle.om_names.specs.declared.fault.NamesFault.{NamesFault}
 use Rattle.om_names.specs.declared.fault.NamesFault.TheVariants as n
 

@@ -1,16 +1,16 @@
 -- Where range lists end.
-use Rattle.std.proofs.Common.{◌≡◌, ℕ, zero, suc, ◌+◌, ◌-◌, ◌*◌, ◌/◌, ◌%◌, ◌<◌, ◌≤◌, Bool, true, false, cond, ◌&&◌, ◌||◌, nat_eq, leb, eqb, List, [], ◌∷◌, ◌++◌, length, get_or, take, drop, map, Option, Some, None, refl, sym, ap, subst, ◌∙◌, inl, inr, arith, length-append, length-drop, ◌⊎◌}
-use Rattle.std.specs.Prelude.{position, is_some, MatchOption}
-use Rattle.std.specs.List.{list_any, range_with_len}
+use Rattle.std.proofs.Common.{◌≡◌, ℕ, ◌+◌, ◌-◌, ◌*◌, ◌/◌, ◌%◌, ◌<◌, ◌≤◌, Bool, true, false, cond, ◌||◌, leb, eqb, List, [], ◌∷◌, ◌++◌, length, get_or, take, drop, Option, Some, None, refl, sym, ap, subst, ◌∙◌, inl, inr, arith, length-append, length-drop, ◌⊎◌}
+use Rattle.std.specs.Prelude.{position, is_some}
+use Rattle.std.specs.List.{list_any}
 use Rattle.std.specs.Option.{option_map}
-use Rattle.std.proofs.lemmas.Bool.{and_from, and_parts, cases_Bool, cases_lt, eqb-true, eq-eqb, false≢true, le-leb, leb-true, lt-leb}
+use Rattle.std.proofs.lemmas.Bool.{and_from, and_parts, cases_lt, false≢true, le-leb, leb-true, lt-leb}
 use Rattle.std.proofs.lemmas.List.Folds.{Any-from_list_any, list_any_at}
 use Rattle.std.proofs.lemmas.List.FromFn.{get_or-map-range_with_len, length-map-range_with_len}
 use Rattle.std.proofs.lemmas.List.{drop-drop, get_or_append_left, get_or_push}
-use Rattle.om_base.specs.Numbers.{le, number_at}
+use Rattle.om_base.specs.Numbers.{le}
 use Rattle.om_base.proofs.PlaceLemmas.{fails, position_cons}
 use Rattle.om_die.specs.Ranges.{entries_in, is_end, range_list, ranges_of, word}
-use Rattle.om_names.specs.Ends.{AreLast, IsEnd, IsLastBelow, IsLastEnd, is_end_at, is_zero_at, reaches}
+use Rattle.om_names.specs.Ends.{AreLast, IsLastBelow, IsLastEnd, is_end_at, is_zero_at, reaches}
 
 -- ---- finding the last place
 
@@ -38,7 +38,7 @@ pub all_seen : (section : List ℕ) (remainder : ℕ) (place : Option ℕ) → r
 all_seen section remainder place small so_far = record {
   is = so_far.is;
   last = λ at same end.
-      let whole : at + 4 + 4 ≤ length section = leb-true (at + 4 + 4) (length section) (and_parts _ _ (and_parts _ _ end).1).0 in
+      let whole : at + 4 + 4 ≤ length section = leb-true (at + 4 + 4) (length section) (and_parts (leb (at + 4 + 4) (length section)) (eqb (word section (at + 4)) 0) (and_parts (is_zero_at section at) (is_zero_at section (at + 4)) end).1).0 in
       so_far.last at same (omega arith) end;
 }
 
@@ -87,7 +87,7 @@ any_gives section offset some =
     let within : any.0 < length (drop offset section) / 8 = subst (λ n. any.0 < n) (count_of (drop offset section)) any.2 in
     let is : is_end (word (drop offset section) (8 * any.0), word (drop offset section) (8 * any.0 + 4)) ≡ true =
     ap (λ x. is_end x) (sym (entry_at (drop offset section) any.0 any.1 within)) ∙ ap (λ x. is_end x) any.3 ∙ any.4 in
-    let zeros = and_parts _ _ is in
+    let zeros = and_parts (eqb (word (drop offset section) (8 * any.0)) 0) (eqb (word (drop offset section) (8 * any.0 + 4)) 0) is in
     let size : length (drop offset section) ≡ length section - offset = length-drop offset section in
     let low : (offset + 8 * any.0) + 4 ≤ length section = omega arith in
     let high : (offset + 8 * any.0 + 4) + 4 ≤ length section = omega arith in (
@@ -99,10 +99,10 @@ any_gives section offset some =
 
 pub gives_any : (section : List ℕ) (offset place : ℕ) → is_end_at section (offset + 8 * place) ≡ true → list_any is_end (entries_in (drop offset section)) ≡ true
 gives_any section offset place end =
-    let halves = and_parts _ _ end in
-    let low = and_parts _ _ halves.0 in
-    let high = and_parts _ _ halves.1 in
-    let whole : (offset + 8 * place + 4) + 4 ≤ length section = leb-true _ _ high.0 in
+    let halves = and_parts (is_zero_at section (offset + 8 * place)) (is_zero_at section (offset + 8 * place + 4)) end in
+    let low = and_parts (leb (offset + 8 * place + 4) (length section)) (eqb (word section (offset + 8 * place)) 0) halves.0 in
+    let high = and_parts (leb (offset + 8 * place + 4 + 4) (length section)) (eqb (word section (offset + 8 * place + 4)) 0) halves.1 in
+    let whole : offset + 8 * place + 4 + 4 ≤ length section = leb-true (offset + 8 * place + 4 + 4) (length section) high.0 in
     let size : length (drop offset section) ≡ length section - offset = length-drop offset section in
     let within : place < length (drop offset section) / 8 = omega arith in
     let behind : offset + (8 * place + 4) ≡ offset + 8 * place + 4 = omega arith in

@@ -1,7 +1,7 @@
 -- What claims and counts tell of all entries.
-use Rattle.std.proofs.Common.{◌≡◌, ℕ, zero, suc, ◌+◌, ◌*◌, ◌^◌, ◌<◌, ◌≤◌, Bool, true, false, cond, ◌&&◌, ◌||◌, nat_eq, leb, ltb, List, [], ◌∷◌, ◌++◌, length, map, Option, Some, None, refl, sym, ap, subst, ◌∙◌, arith, append_assoc, length-append}
+use Rattle.std.proofs.Common.{◌≡◌, ℕ, ◌+◌, ◌^◌, ◌<◌, ◌≤◌, Bool, true, false, cond, ◌&&◌, ◌||◌, nat_eq, leb, ltb, List, [], ◌∷◌, ◌++◌, length, map, Option, Some, None, refl, sym, ap, ◌∙◌, arith, length-append}
 use Rattle.std.specs.Prelude.{sum_by, filter, find}
-use Rattle.std.specs.List.{flat_map, list_any}
+use Rattle.std.specs.List.{flat_map}
 use Rattle.std.specs.Option.{option_and_then}
 use Rattle.std.proofs.lemmas.Grind.{flat_map-append}
 use Rattle.std.proofs.lemmas.List.{length-map}
@@ -9,12 +9,11 @@ use Rattle.std.proofs.lemmas.List.Folds.{flat_map-map}
 use Rattle.std.proofs.lemmas.List.Sums.{sum_by-append, sum_by-cons}
 use Rattle.om_base.specs.Reading.{EachFrom}
 use Rattle.om_base.specs.declared.span.Span.{Span}
-use Rattle.om_die.specs.Units.{AreUnits, IsPiece, IsWhole, Piece, Read, Sections, Skipped, dies_in, dies_of_units, is_elsewhere, settled_die, settled_in, settled_unit, units_in}
-use Rattle.om_die.specs.declared.die.Die.{Die}
+use Rattle.om_die.specs.Units.{AreUnits, IsPiece, Piece, Read, Sections, Skipped, dies_in, dies_of_units, is_elsewhere, settled_die, settled_in, settled_unit, units_in}
 use Rattle.om_die.specs.declared.unit.Unit.{Unit}
 use Rattle.om_die.specs.declared.unit.Units.{Units}
 use Rattle.om_names.specs.Functions.{func_at, function_at, functions_in, holds, name_of}
-use Rattle.om_names.specs.Index.{claimed, is_claimed, name_in_owner, owner_of}
+use Rattle.om_names.specs.Index.{claimed, name_in_owner, owner_of}
 use Rattle.om_names.specs.Information.{Entry, Information, entries_of, is_subprogram}
 use Rattle.om_names.specs.Known.{info_of}
 use Rattle.om_names.specs.Names.{AreNames, name_from}
@@ -23,7 +22,7 @@ use Rattle.om_names.specs.Walk.{claim_by, claims_by, claims_in_unit, count_by, c
 use Rattle.om_names.specs.declared.claim.Claim.{Claim}
 use Rattle.om_names.specs.declared.names.Names.{Names}
 use Rattle.om_names.specs.declared.owner.Owner.{Owner}
-use Rattle.om_names.specs.declared.owner.Owner.TheVariants.{Nobody, Nameless, Named}
+use Rattle.om_names.specs.declared.owner.Owner.TheVariants.{Nobody}
 use Rattle.om_names.proofs.NameLemmas.{named}
 
 -- ---- claims

@@ -1,15 +1,15 @@
 -- What entries tell of their names, entry by entry.
 use Rattle.std.proofs.Common.{◌≡◌, ℕ, zero, suc, ◌+◌, ◌-◌, ◌<◌, Bool, true, false, cond, nat_eq, List, [], ◌∷◌, ◌++◌, length, get_or, take, Option, Some, None, refl, sym, ap, subst, ◌∙◌, arith, append_assoc, append-nil}
 use Rattle.std.specs.Option.{option_and_then, option_map, option_or}
-use Rattle.std.specs.List.{find, flat_map}
+use Rattle.std.specs.List.{find}
 use Rattle.std.proofs.lemmas.Grind.{flat_map-append}
 use Rattle.std.proofs.lemmas.List.{take_more}
 use Rattle.std.proofs.lemmas.List.Folds.{find-append}
 use Rattle.om_die.specs.Units.{dies_of_units}
 use Rattle.om_die.specs.declared.die.Die.{Die}
 use Rattle.om_die.specs.declared.unit.Unit.{Unit}
-use Rattle.om_names.specs.Functions.{entry_at, link_of, name_in, name_of, own_name}
-use Rattle.om_names.specs.Names.{AreNames, find_in, name_by, name_from, told_at, told_of}
+use Rattle.om_names.specs.Functions.{entry_at, link_of, name_in, own_name}
+use Rattle.om_names.specs.Names.{AreNames, find_in, name_by, told_at, told_of}
 use Rattle.om_names.specs.declared.names.Names.{Names}
 use Rattle.om_names.specs.declared.names.Told.{Told}
 

@@ -1,14 +1,14 @@
 -- The address space in pieces: merging, and finding the piece of an address.
-use Rattle.std.proofs.Common.{◌≡◌, ℕ, zero, suc, ◌+◌, ◌-◌, ◌<◌, ◌≤◌, Bool, true, false, cond, ltb, leb, nat_le, nat_lt, ◌&&◌, List, [], ◌∷◌, ◌++◌, length, get_or, take, drop, Option, Some, None, refl, sym, ap, subst, ◌∙◌, inl, inr, arith, take-append-drop}
+use Rattle.std.proofs.Common.{◌≡◌, ℕ, zero, suc, ◌+◌, ◌-◌, ◌<◌, ◌≤◌, true, false, cond, ltb, leb, ◌&&◌, List, [], ◌∷◌, ◌++◌, length, get_or, Option, Some, None, refl, sym, ap, subst, ◌∙◌, inl, inr, arith}
 use Rattle.std.specs.List.{AllWithin}
 use Rattle.std.specs.List.Sorted.{IsNonDecreasingBy, IsPartitionPoint}
-use Rattle.std.proofs.lemmas.Bool.{cases_Bool, cases_lt, leb-true, leb-false, le-ltb, lt-ltb, false≢true}
+use Rattle.std.proofs.lemmas.Bool.{cases_Bool, cases_lt, leb-true, leb-false, le-ltb, lt-ltb}
 use Rattle.std.proofs.lemmas.Bool.Decides.{nat_tests}
 use Rattle.std.proofs.lemmas.List.Sorted.{IsNonDecreasingBy-from_all_adjacent}
 use Rattle.om_names.specs.Index.{IsIndex, Rise, claimed, comes_first, is_claimed, merged, over, owner_at, owner_of, pieces_of}
 use Rattle.om_names.specs.declared.claim.Claim.{Claim}
 use Rattle.om_names.specs.declared.owner.Owner.{Owner}
-use Rattle.om_names.specs.declared.owner.Owner.TheVariants.{Nobody, Nameless, Named}
+use Rattle.om_names.specs.declared.owner.Owner.TheVariants.{Nobody}
 use Rattle.om_names.specs.declared.pieces.Piece.{Piece}
 
 -- ---- merging

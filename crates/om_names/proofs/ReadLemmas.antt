@@ -1,5 +1,5 @@
 -- What is read of an executable, and refused.
-use Rattle.std.proofs.Common.{◌≡◌, ℕ, ◌<◌, ◌^◌, List, length, Some, None, Ok, Err, codes, refl, sym, ap, subst, ◌∙◌, ◌⊎◌, inl, inr}
+use Rattle.std.proofs.Common.{◌≡◌, ℕ, List, length, Some, None, Ok, Err, codes, refl, sym, ap, ◌∙◌, ◌⊎◌, inl, inr}
 use Rattle.std.specs.Prelude.{Result, IfOk, IfErr, sum_by}
 use Rattle.std.specs.List.{flat_map}
 use Rattle.om_die.specs.Refusals.{IsRefusal}
@@ -14,10 +14,9 @@ use Rattle.om_names.specs.Information.{Information, section, unit_sections}
 use Rattle.om_names.specs.Known.{IsKnown, info_of}
 use Rattle.om_names.specs.Names.{AreNames}
 use Rattle.om_names.specs.Ranges.{first_range_fault}
-use Rattle.om_names.specs.Reading.{HasRangeFault, HasUnitFault, IsInformation, IsLawful, IsRefused}
+use Rattle.om_names.specs.Reading.{HasUnitFault, IsInformation, IsLawful, IsRefused}
 use Rattle.om_names.specs.Walk.{claims_in_unit, count_in_unit}
 use Rattle.om_names.specs.declared.claim.Claim.{Claim}
-use Rattle.om_names.specs.declared.counts.Counts.{Counts}
 use Rattle.om_names.specs.declared.fault.NamesFault.{NamesFault}
 use Rattle.om_names.specs.declared.fault.NamesFault.TheVariants as n
 use Rattle.om_names.specs.declared.names.Names.{Names}

@@ -1,5 +1,5 @@
 -- What entries tell, entry by entry.
-use Rattle.std.proofs.Common.{◌≡◌, ℕ, zero, suc, ◌+◌, ◌*◌, ◌<◌, ◌≤◌, Bool, true, false, cond, ◌&&◌, ◌||◌, nat_eq, List, [], ◌∷◌, ◌++◌, length, get_or, take, drop, map, Option, Some, None, refl, sym, ap, subst, ◌∙◌, arith, append_assoc, append-nil, drop-cons, length-append, take-append-drop}
+use Rattle.std.proofs.Common.{◌≡◌, ℕ, suc, ◌+◌, ◌<◌, ◌≤◌, Bool, true, false, cond, ◌&&◌, nat_eq, List, [], ◌∷◌, ◌++◌, length, get_or, take, drop, map, Option, Some, None, refl, sym, ap, subst, ◌∙◌, arith, append-nil, drop-cons, length-append, take-append-drop}
 use Rattle.std.specs.Prelude.{is_some, sum_by}
 use Rattle.std.specs.List.{flat_map}
 use Rattle.std.specs.Option.{option_or}
@@ -14,17 +14,12 @@ use Rattle.om_base.specs.declared.span.Span.{Span}
 use Rattle.om_die.specs.Ranges.{range_list}
 use Rattle.om_die.specs.Units.{dies_of_units}
 use Rattle.om_die.specs.declared.die.Die.{Die}
-use Rattle.om_die.specs.declared.fault.DieFault.{DieFault}
 use Rattle.om_die.specs.declared.fault.DieFault.TheVariants as d
 use Rattle.om_die.specs.declared.unit.Unit.{Unit}
-use Rattle.om_names.specs.Ends.{AreEnds}
-use Rattle.om_names.specs.Information.{Entry, entries_of}
 use Rattle.om_names.specs.Ranges.{are_some, base_of, endless, listed, own_range, range_fault, ranges_by, ranges_of, ranges_offset}
 use Rattle.om_names.specs.Names.{name_from}
 use Rattle.om_names.specs.Walk.{claim_by, claims_by, claims_in_unit, count_by, count_in_unit, entry_in, fault_at, fault_in, has_ranges, list_offset, spans_by, unless_own}
-use Rattle.om_names.specs.declared.claim.Claim.{Claim}
 use Rattle.om_names.specs.declared.names.Names.{Names}
-use Rattle.om_names.specs.declared.list_ends.ListEnds.{ListEnds}
 
 -- ---- the fault of an entry
 

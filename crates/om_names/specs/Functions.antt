@@ -1,5 +1,5 @@
 -- The function that an address lies in, and the names of functions: DWARF 4, section 3.3 "Subroutine and Entry Point Entries".
-use Rattle.std.specs.Prelude.{ℕ, suc, zero, Bool, ◌&&◌, nat_eq, List, [], length, filter, find, Option, Some, None}
+use Rattle.std.specs.Prelude.{ℕ, suc, zero, Bool, ◌&&◌, nat_eq, List, length, filter, find, Option, Some, None}
 use Rattle.std.specs.Option.{option_and_then, option_or}
 use Rattle.om_die.specs.Units.{dies_of_units}
 use Rattle.om_die.specs.Value.{Value}

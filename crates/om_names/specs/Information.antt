@@ -1,8 +1,7 @@
 -- The debugging information of an executable: its units, and the section of range lists.
-use Rattle.std.specs.Prelude.{ℕ, Bool, nat_eq, List, [], find, flat_map, map, Option, Some, None, codes, unwrap_or}
+use Rattle.std.specs.Prelude.{ℕ, Bool, nat_eq, List, [], flat_map, map, Option, codes, unwrap_or}
 use Rattle.om_die.specs.Units.{Sections, attribute_of}
 use Rattle.om_die.specs.Value.{Value}
-use Rattle.om_die.specs.Value as v
 use Rattle.om_die.specs.declared.die.Die.{Die}
 use Rattle.om_die.specs.declared.unit.Unit.{Unit}
 use Rattle.om_die.specs.declared.unit.Units.{Units}

@@ -1,5 +1,5 @@
 -- The addresses of an entry's code: DWARF 4, section 2.17 "Code Addresses and Ranges".
-use Rattle.std.specs.Prelude.{ℕ, ◌+◌, ◌^◌, ℤ, pos, Bool, ◌&&◌, ◌||◌, nat_le, nat_lt, int_le, min, if◌then◌else◌, List, [], ◌∷◌, drop, map, unwrap_or, Option, Some, None}
+use Rattle.std.specs.Prelude.{ℕ, ◌+◌, ◌^◌, pos, Bool, ◌&&◌, ◌||◌, nat_le, nat_lt, min, if◌then◌else◌, List, [], ◌∷◌, drop, map, unwrap_or, Option, Some, None}
 use Rattle.std.specs.List.{list_any}
 use Rattle.std.specs.Option.{option_map, option_and_then}
 use Rattle.om_base.specs.Firsts.{first_of}

@@ -1,5 +1,5 @@
 -- What an executable's debugging information is, and why it may be refused.
-use Rattle.std.specs.Prelude.{◌≡◌, codes, Option, Some, None, ◌⊎◌}
+use Rattle.std.specs.Prelude.{◌≡◌, codes, Some, None, ◌⊎◌}
 use Rattle.om_die.specs.Units.{AreUnits}
 use Rattle.om_die.specs.Refusals.{IsRefusal}
 use Rattle.om_die.specs.declared.fault.DieFault.{DieFault}

@@ -15,8 +15,8 @@ ghost use Rattle.om_names.specs.Reading.{HasUnitFault, IsLawful, IsRefused};
 
 use crate::counts::Counts;
 use crate::fault::NamesFault;
-use crate::faults::first_fault;
 use crate::functions::read_functions;
+use crate::judging::first_fault;
 use crate::list_ends::list_ends;
 use crate::names::read_names;
 use crate::pieces::{Piece, index_of, owner_at};

@@ -1,7 +1,7 @@
 //! Small executables made by hand: functions and the gaps between them, ranges, links, and range lists
 //! without an end.
 
-ghost use Rattle.std.specs.Prelude.{All, IfOk};
+ghost use Rattle.std.specs.Prelude.{◌≡◌, length, All, IfOk};
 ghost use Rattle.om_elf.specs.Piece.{IsShort};
 
 use crate::{Counts, Debug, NamesFault, read_debug};
@@ -49,6 +49,17 @@ fn put_unit(info: &mut Vec<u8>, version: u8, body: &[u8]) -> Result<(), AllocErr
     info.extend_from_slice(body)
 }
 
+/// A section.
+fn section<'a>(name: &'a [u8], bytes: &'a [u8]) -> Section<'a>
+    ensures { length result.bytes ≡ length bytes.now }
+{
+    Section {
+        index: 1,
+        name: Name::of(name),
+        bytes,
+    }
+}
+
 /// An executable with these entries, unless they are too long.
 fn elf_of<'a>(alloc: Global, info: &'a [u8]) -> Result<Elf<'a>, NoMemory>
     ensures { IfOk result (λ elf. All IsShort elf.sections) }
@@ -56,25 +67,16 @@ fn elf_of<'a>(alloc: Global, info: &'a [u8]) -> Result<Elf<'a>, NoMemory>
     if info.len() as u64 > MOST_BYTES {
         return Err(NoMemory);
     }
-    let mut sections = Items::new(alloc);
-    let parts: [(&[u8], &[u8]); 3] = [
-        (b".debug_info", info),
-        (b".debug_abbrev", &ABBREVIATIONS),
-        (b".debug_ranges", &RANGES),
-    ];
-    for (name, bytes) in parts {
-        let name = Name::of(name);
-        sections.push(Section {
-            index: 1,
-            name,
-            bytes,
-        })?;
-    }
+    let sections = vec![in alloc;
+        section(b".debug_info", info),
+        section(b".debug_abbrev", &ABBREVIATIONS),
+        section(b".debug_ranges", &RANGES),
+    ]?;
     Ok(Elf {
         entry: 0,
         flags: 0,
         segments: Items::new(alloc),
-        sections,
+        sections: Items::from_vec(sections),
     })
 }
 

@@ -1,5 +1,3 @@
-use Rattle.std.proofs.Common.{◌≡◌, ap, sym, ◌∙◌}
-use Rattle.om_die.specs.Shown.{sections_of}
 use Rattle.om_names.specs.Information.{unit_sections}
 use Rattle.om_names.proofs.ReadLemmas.{fault_err, reads_err, reads_ok, refuses_err, refuses_ok}
 use Rattle.om_names.proofs.debug.read_info.Goals as goal

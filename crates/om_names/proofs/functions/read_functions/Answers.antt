@@ -1,4 +1,4 @@
-use Rattle.std.proofs.Common.{◌≡◌, ◌+◌, ◌≤◌, ◌++◌, length, take, ap, sym, subst, ◌∙◌, arith}
+use Rattle.std.proofs.Common.{◌≡◌, ◌++◌, length, ap, sym, ◌∙◌, arith}
 use Rattle.om_die.specs.Units.{dies_of_units}
 use Rattle.om_names.specs.Walk.{claims_in_unit, count_in_unit}
 use Rattle.om_names.proofs.WalkLemmas.{dies_more, dies_within, flat_more, sum_more, unit_small}

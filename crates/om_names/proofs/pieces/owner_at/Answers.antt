@@ -1,4 +1,4 @@
-use Rattle.std.proofs.Common.{ap, leb, ◌∙◌, arith, rules}
+use Rattle.std.proofs.Common.{leb, ◌∙◌, arith, rules}
 use Rattle.std.proofs.lemmas.List.Sorted.{IsPartitionPoint-from_clause, IsPartitionedBy-leb}
 use Rattle.om_names.proofs.PieceLemmas.{at_none, at_some, rising}
 use Rattle.om_names.proofs.pieces.owner_at.Goals as goal

@@ -1,7 +1,7 @@
-use Rattle.std.proofs.Common.{◌≡◌, ◌+◌, ◌++◌, [], cond, map, ap, sym, ◌∙◌, arith, append-nil}
+use Rattle.std.proofs.Common.{◌≡◌, ◌++◌, cond, map, ap, sym, ◌∙◌, arith, append-nil}
 use Rattle.om_names.specs.Names.{name_from}
 use Rattle.om_names.specs.Ranges.{are_some}
-use Rattle.om_names.specs.Walk.{claim_by, claims_by, count_by}
+use Rattle.om_names.specs.Walk.{claim_by, count_by}
 use Rattle.om_names.proofs.WalkLemmas.{claims_function, claims_other, count_function, count_other}
 use Rattle.om_names.proofs.functions.Functions.add.Goals as goal
 

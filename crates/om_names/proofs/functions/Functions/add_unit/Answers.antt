@@ -1,4 +1,4 @@
-use Rattle.std.proofs.Common.{◌≡◌, ◌+◌, ◌++◌, ap, sym, ◌∙◌, arith, append_assoc, take}
+use Rattle.std.proofs.Common.{◌+◌, ◌++◌, ap, sym, ◌∙◌, arith, append_assoc, take}
 use Rattle.std.specs.List.{flat_map}
 use Rattle.om_names.specs.Walk.{claims_by, count_by}
 use Rattle.om_names.proofs.WalkLemmas.{count_small, flat_more, sum_more, unit_claims, unit_count}

@@ -1,4 +1,4 @@
-use Rattle.std.proofs.Common.{◌++◌, sym, subst}
+use Rattle.std.proofs.Common.{◌++◌, subst}
 use Rattle.std.proofs.lemmas.List.{take_all}
 use Rattle.om_names.specs.Names.{AreNames}
 use Rattle.om_names.proofs.NameLemmas.{kept_all}

@@ -1,4 +1,4 @@
-//! Range lists without an end.
+//! Which range lists have no end.
 
 ghost use Rattle.std.specs.Prelude.{◌≡◌, ℕ, List, map};
 ghost use Rattle.om_base.specs.Firsts.{first_of};

@@ -1,7 +1,7 @@
 use Rattle.std.proofs.Common.{sym, ◌∙◌}
 use Rattle.om_names.specs.Ranges.{base_of}
 use Rattle.om_names.proofs.WalkLemmas.{list_ended, list_endless, no_list}
-use Rattle.om_names.proofs.faults.range_fault.Goals as goal
+use Rattle.om_names.proofs.judging.range_fault.Goals as goal
 
 pub returns-in_default : goal.returns-in_default
 returns-in_default c = λ section unit are. no_list section unit c.args.die.now (sym c.in_default.ensures)
