@@ -1,0 +1,2 @@
+//! Tests of executables and their debugging information: the crates `om_elf`, `om_die`, `om_names`, `om_image` and `om_view`.
+#![tactic(auto)]

@@ -1,0 +1,2 @@
+//! Tests of logs and runs: the crates `om_log`, `om_run` and `om_record`.
+#![tactic(auto)]
