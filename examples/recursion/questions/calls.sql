@@ -1,0 +1,1 @@
+SELECT step, func, a0 FROM states WHERE pc = 65556

@@ -1,0 +1,1 @@
+SELECT step, pc, func FROM states WHERE pc < 65556

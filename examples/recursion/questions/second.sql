@@ -1,0 +1,1 @@
+SELECT step, func FROM states WHERE step = 2
