@@ -14,11 +14,7 @@ mod reading;
 mod recording;
 mod refusal;
 mod refused;
-#[cfg(test)]
-mod relation_tests;
 mod rows;
-#[cfg(test)]
-mod tests;
 mod words;
 
 use om_io::{DirShelf, StdSink};
