@@ -14,7 +14,7 @@ pub enum DieFault {
     /// No memory was left.
     NoMemory,
     /// A unit passes the end of the section or is too short for its head, an entry passes the end of
-    /// its unit, or a range list has no end.
+    /// its unit or has a LEB128 number without an end in ten bytes, or a range list has no end.
     Short { at: u32 },
     /// The entry's code has no abbreviation.
     Abbrev { at: u32 },

@@ -11,6 +11,7 @@ use Rattle.om_names.specs.declared.counts.Counts.{Counts}
 
 -- ---- names
 
+-- a value that is a text
 abbrev pub text_in : Option Value → Option (List ℕ)
 text_in (Some (v.Text name)) = Some name
 text_in value = None
@@ -19,6 +20,7 @@ text_in value = None
 abbrev pub own_name : Die → Option (List ℕ)
 own_name die = text_in (value_of 0x03 die)
 
+-- a value that is the offset of an entry
 abbrev pub target_in : Option Value → Option ℕ
 target_in (Some (v.Target offset)) = Some offset
 target_in value = None

@@ -51,11 +51,12 @@ ranges_offset die = offset_in (value_of 0x55 die)
 abbrev pub own_range : Die → Option Span
 own_range die = option_and_then (λ low. option_map (λ high. record { lo = low; hi = min high (2 ^ 32) }) (high_pc low die)) (low_pc die)
 
--- the address from which a unit's range lists count: that of its first entry, 0 where it has none
+-- the lowest address of the first entry, if it has one
 abbrev pub first_low_pc : List Die → Option ℕ
 first_low_pc [] = None
 first_low_pc (die ∷ dies) = low_pc die
 
+-- the address from which a unit's range lists count: the lowest one of its first entry, 0 where that has none
 abbrev pub base_of : Unit → ℕ
 base_of unit = unwrap_or (first_low_pc unit.dies) 0
 

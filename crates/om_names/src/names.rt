@@ -1,4 +1,4 @@
-//! The names of entries: DWARF 4, section 2.15, and sections 2.13.2, 3.3.8 and 5.5.4 on entries that
+//! The names of entries: DWARF 4, section 2.15, and sections 2.13.2, 3.3.8 and 5.5.7 on entries that
 //! complete others.
 
 ghost use Rattle.std.specs.Prelude.{◌≡◌, ◌++◌, IfOk, OnOk, ℕ, List};

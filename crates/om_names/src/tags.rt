@@ -1,4 +1,4 @@
-//! The tags of entries with code: DWARF 4, section 7.5.4, figure 18.
+//! The tags of entries with code: DWARF 4, section 7.5.3, figure 18.
 
 pub const DW_TAG_LEXICAL_BLOCK: u32 = 0x0b;
 
