@@ -44,7 +44,7 @@ pub record IsEntry (bytes : List ℕ) (entry : Entry) : Type 0 where
   pub children_are : entry.abbreviation.has_children ≡ not (nat_eq children_number 0)
   pub attributes : AreSpecifications list entry.abbreviation.attributes
 
--- the whole entries at the front of some bytes, up to the code 0 or to an entry that breaks off
+-- the whole entries at the front of some bytes, up to the code 0 or to an entry that breaks off or has a number that is too long
 pub record IsTable (bytes : List ℕ) (entries : List Entry) : Type 0 where
   pub front : List ℕ
   pub back : List ℕ

@@ -14,7 +14,8 @@ AreAttributes around (s ∷ ss) bytes (attribute ∷ attributes) =
     (front back : List ℕ) × (bytes ≡ front ++ back) × (attribute.name ≡ s.name) × IsValue around s.form front attribute.value
     × AreAttributes around ss back attributes
 
--- why some bytes begin with no value of a form: it is refused by its form, or isn't whole
+-- why some bytes begin with no value of a form: it is refused by its form, or isn't whole; a number that is too long counts as
+-- one that isn't whole
 unfoldable pub IsGap : Around → Specification → List ℕ → Gap → Type 0
 IsGap around s bytes gap.Form = IsFormRefused around s.form bytes
 IsGap around s bytes gap.Short = (IsFormRefused around s.form bytes → ⊥) × HasNoValue around s.form bytes

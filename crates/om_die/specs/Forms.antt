@@ -145,7 +145,8 @@ pub record HasLostString (strings bytes : List ℕ) : Type 0 where
   pub spelled : IsNumber 4 front offset
   pub endless : All (λ byte. byte ≢ 0) (drop offset strings)
 
--- some bytes begin with no value of this form, and not for want of bytes: the form isn't read, or a string has no end
+-- some bytes begin with no value of this form because the form isn't read or a string has no end; a number that is too long
+-- isn't refused by its form, but counts as one that isn't whole
 unfoldable pub IsPlainRefused : Around → Option Form → List ℕ → Type 0
 IsPlainRefused around None bytes = Unit {0}
 IsPlainRefused around (Some f.Indirect) bytes = Unit {0}

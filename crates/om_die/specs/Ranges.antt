@@ -23,7 +23,8 @@ first_entry bytes = if nat_le 8 (length bytes) then Some ((word bytes 0, word by
 abbrev pub is_end : ℕ × ℕ → Bool
 is_end entry = nat_eq entry.0 0 && nat_eq entry.1 0
 
--- the ranges of some entries, from a base address on, which an entry may choose anew
+-- the ranges of some entries, from a base address on, which an entry may choose anew; addresses are modulo 2^32, so that a range
+-- up to the last address ends at 0 and is empty
 unfoldable pub ranges_of : ℕ → List (ℕ × ℕ) → List Span
 ranges_of base [] = []
 ranges_of base (entry ∷ entries) =

@@ -29,7 +29,7 @@ pub record HasCode (bytes : List ℕ) (code : ℕ) (back : List ℕ) : Type 0 wh
   pub spelled : IsUleb front code
   pub nonzero : code ≢ 0
 
--- some bytes begin with no code at all
+-- some bytes begin with no code at all: they break off within it, or it is too long
 abbrev pub HasNoCode : List ℕ → Type 0
 HasNoCode bytes = (front back : List ℕ) (code : ℕ) → bytes ≡ front ++ back → IsUleb front code → ⊥
 

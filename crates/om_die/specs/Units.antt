@@ -1,4 +1,5 @@
--- The units of .debug_info: DWARF 4, section 7.5.1 "Unit Headers", and section 7.4 "32-Bit and 64-Bit DWARF Formats".
+-- The units of .debug_info: DWARF 4, section 7.5.1 "Unit Headers", section 7.2.2 "Initial Length Values", and section 7.4 "32-Bit
+-- and 64-Bit DWARF Formats".
 use Rattle.std.specs.Prelude.{◌≡◌, ℕ, ◌+◌, ◌*◌, ◌≤◌, ◌^◌, Bool, false, ◌&&◌, ◌||◌, not, nat_eq, nat_le, nat_lt, if◌then◌else◌, List, [], ◌∷◌, ◌++◌, length, map, filter, find, sum_by, take, drop, slice_index, unwrap_or, IsTrue, Option, Some, None}
 use Rattle.std.specs.List.{list_any, flat_map}
 use Rattle.std.specs.Option.{option_map}
@@ -48,8 +49,9 @@ is_read bytes = nat_le 2 (version bytes) && nat_le (version bytes) 4
 abbrev pub unless : Bool → DieFault → Option DieFault
 unless kept fault = if kept then None else Some fault
 
--- what each rule of a head says of bytes that begin at an offset, in their order: the length, DWARF's 64-bit format, the
--- unit's end, its version, and of a version that is read the whole head and the size of an address
+-- what each rule of a head says of bytes that begin at an offset, in their order: the length is there, and is none of the values
+-- from 0xfffffff0 on, which mark DWARF's 64-bit format or are reserved; the unit is there, and in it its version; of a version that
+-- is read the head is whole, and an address has 4 bytes
 unfoldable pub head_fault : ℕ → List ℕ → Option DieFault
 head_fault at bytes = first_of (
     unless (nat_le 4 (length bytes)) (fault.Short at)
