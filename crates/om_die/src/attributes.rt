@@ -13,7 +13,7 @@ use std::alloc::Global;
 /// Why an attribute isn't there.
 #[derive(Clone, Copy, Debug, PartialEq, Eq)]
 pub enum Gap {
-    /// Its value isn't whole.
+    /// Its value isn't whole, or has a LEB128 number that is too long.
     Short,
     /// Its form isn't read, or its string has no end.
     Form,

@@ -13,15 +13,18 @@ use om_base::NoMemory;
 pub enum DieFault {
     /// No memory was left.
     NoMemory,
-    /// A unit passes the end of the section or is too short for its head, an entry passes the end of
-    /// its unit or has a LEB128 number without an end in ten bytes, or a range list has no end.
+    /// A unit passes the end of the section or is too short for its head; an entry passes the end of
+    /// its unit, or has a LEB128 number of more than ten bytes or of more than 64 bits; or a range
+    /// list has no end.
     Short { at: u32 },
     /// The entry's code has no abbreviation.
     Abbrev { at: u32 },
-    /// An attribute of the entry has a form that isn't read, or a string without an end; or the unit
-    /// is of the 64-bit format, or has addresses of another size than 4.
+    /// An attribute of the entry has a form that isn't read, an indirect form that names the indirect
+    /// form again, or a string without an end; or the unit is of the 64-bit format or has another
+    /// length that is reserved, or has addresses of another size than 4.
     Form { at: u32 },
-    /// The entry refers to an offset at which there is no entry.
+    /// The entry refers by `DW_AT_abstract_origin`, `DW_AT_specification` or `DW_AT_type` to an offset
+    /// at which there is no entry.
     Target { at: u32 },
     /// The entry is the 1,048,577th.
     TooMany { at: u32 },
