@@ -9,8 +9,6 @@ mod immediate;
 mod instr;
 mod laws;
 mod op;
-#[cfg(test)]
-mod tests;
 
 pub use decoder::decode;
 pub use form::Form;

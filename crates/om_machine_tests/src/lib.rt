@@ -1,2 +1,5 @@
 //! Tests of the instruction words, memory and the machine: the crates `om_isa`, `om_mem` and `om_step`.
 #![tactic(auto)]
+
+#[cfg(test)]
+mod isa;
