@@ -3,3 +3,5 @@
 
 #[cfg(test)]
 mod isa;
+#[cfg(test)]
+mod mem;

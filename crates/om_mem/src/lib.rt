@@ -4,14 +4,10 @@
 //! An address wraps: after 2^32 - 1 comes 0.
 #![tactic(auto)]
 
-#[cfg(test)]
-mod access_tests;
 mod laws;
 mod map_fault;
 mod mapping;
 mod memory;
-#[cfg(test)]
-mod page_tests;
 mod pages;
 mod reading;
 mod region;
