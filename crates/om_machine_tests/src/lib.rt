@@ -5,3 +5,7 @@
 mod isa;
 #[cfg(test)]
 mod mem;
+#[cfg(test)]
+mod step;
+#[cfg(test)]
+mod step_vectors;

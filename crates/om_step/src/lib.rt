@@ -15,10 +15,6 @@ mod meter;
 mod outcome;
 mod register_file;
 mod stepping;
-#[cfg(test)]
-mod tests;
-#[cfg(test)]
-mod vectors;
 
 pub use back::Pages;
 pub use cause::Cause;
