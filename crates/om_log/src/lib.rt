@@ -16,8 +16,6 @@ mod pieces;
 mod reader;
 mod spelling;
 mod start;
-#[cfg(test)]
-mod tests;
 mod write;
 mod writer;
 mod writes;

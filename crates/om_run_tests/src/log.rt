@@ -2,7 +2,7 @@
 //!
 //! The bytes of the logs were put together by another program, from the table of the format.
 
-use crate::{Entry, Log, LogFault, LogWriter, Start, Write, Writes, read_log, write_log};
+use om_log::{Entry, Log, LogFault, LogWriter, Start, Write, Writes, read_log, write_log};
 use std::alloc::Global;
 use std::test::Fail;
 
@@ -242,7 +242,7 @@ fn writes_a_log_that_was_read(rt: HostRuntime) -> Result<(), Fail> {
 }
 
 #[test]
-#[tactic(auto, unfolding(crate::specs::Grammar::spelling))]
+#[tactic(auto, unfolding(om_log::specs::Grammar::spelling))]
 fn writes_entry_by_entry(rt: HostRuntime) -> Result<(), Fail> {
     let mut writer = LogWriter::new(rt.alloc(), START);
     assert_eq!(rt; writer.len(), 20);
