@@ -6,8 +6,6 @@ mod judge;
 mod laws;
 mod logged;
 mod replay;
-#[cfg(test)]
-mod tests;
 
 pub use departure::{Departure, Halt, Reason};
 pub use laws::{causality, in_order, reach};

@@ -3,3 +3,5 @@
 
 #[cfg(test)]
 mod log;
+#[cfg(test)]
+mod run;

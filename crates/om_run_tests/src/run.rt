@@ -3,9 +3,9 @@
 ghost use Rattle.om_elf.specs.Image.{AreLoadable};
 ghost use Rattle.om_log.specs.Grammar.{IsLawfulLog};
 
-use crate::{Departure, Halt, Reason, Replay, is_exit};
 use om_elf::{Elf, read_elf};
 use om_log::{Log, read_log};
+use om_run::{Departure, Halt, Reason, Replay, is_exit};
 use om_step::{MapFault, Pages, StepMeter};
 use std::alloc::Global;
 use std::test::Fail;
