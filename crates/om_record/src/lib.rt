@@ -8,8 +8,6 @@ mod process;
 mod recorded;
 mod regions;
 mod telling;
-#[cfg(test)]
-mod tests;
 
 pub use laws::never_departs;
 pub use making::make_log;

@@ -4,10 +4,10 @@ ghost use Rattle.std.specs.Prelude.{◌<◌, length};
 ghost use Rattle.om_elf.specs.Image.{AreLoadable};
 ghost use Rattle.om_log.specs.Grammar.{IsLawfulLog};
 
-use crate::{RecordFault, Recorded, make_log};
 use om_base::NoMemory;
 use om_elf::{Elf, read_elf};
 use om_log::{Entry, Log, read_log};
+use om_record::{RecordFault, Recorded, make_log};
 use om_run::{Halt, Replay};
 use om_step::{MapFault, StepMeter};
 use std::alloc::Global;
