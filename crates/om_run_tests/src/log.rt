@@ -14,91 +14,43 @@ const START: Start = Start {
     heap_size: 0x10_0000,
 };
 
-/// The log of a program of nine steps that exits with 0: from byte 20 on the CALL of step 8 and number
-/// 93, and from byte 65 on END of step 9.
-static EXIT: [u8; 79] = [
-    0x4f, 0x54, 0x4c, 0x31, 0x00, 0x00, 0xf0, 0x7f, 0x00, 0x00, 0x10, 0x00, 0x00, 0x10, 0x01, 0x00,
-    0x00, 0x00, 0x10, 0x00, 0x01, 0x08, 0x00, 0x00, 0x00, 0x00, 0x00, 0x00, 0x00, 0x5d, 0x00, 0x00,
-    0x00, 0x00, 0x00, 0x00, 0x00, 0x00, 0x00, 0x00, 0x00, 0x00, 0x00, 0x00, 0x00, 0x00, 0x00, 0x00,
-    0x00, 0x00, 0x00, 0x00, 0x00, 0x00, 0x00, 0x00, 0x00, 0x00, 0x00, 0x00, 0x00, 0x00, 0x00, 0x00,
-    0x00, 0x03, 0x09, 0x00, 0x00, 0x00, 0x00, 0x00, 0x00, 0x00, 0x00, 0x00, 0x00, 0x00, 0x00,
-];
+/// The header. Two MARKs of step 3, from bytes 20 and 37 on. The CALL of step 8, from byte 54 on: its step and
+/// number, its arguments, its result and the count of its writes, and two writes, from bytes 99 and 110 on.
+/// From byte 119 on END of step 9 by a stop of code 6.
+static MARKED: &[u8; 133] = b"OTL1\x00\x00\xf0\x7f\x00\x00\x10\x00\x00\x10\x01\x00\x00\x00\x10\x00\
+    \x02\x03\x00\x00\x00\x00\x00\x00\x00\x08\x00\x01\x00\xfe\xff\x01\x80\
+    \x02\x03\x00\x00\x00\x00\x00\x00\x00\x0c\x00\x01\x00\x05\x00\x00\x00\
+    \x01\x08\x00\x00\x00\x00\x00\x00\x00\x3f\x00\x00\x00\
+    \x00\x00\x00\x00\x00\x00\x02\x00\x05\x00\x00\x00\x06\x00\x00\x00\x07\x00\x00\x00\x08\x00\x00\x00\
+    \x04\x00\x00\x00\x02\x00\x00\x00\
+    \x00\x00\x02\x00\x03\x00\x00\x00abc\
+    \xfe\xff\xff\xff\x01\x00\x00\x00\xff\
+    \x03\x09\x00\x00\x00\x00\x00\x00\x00\x02\x06\x00\x00\x00";
 
-/// Two MARKs of step 3, from bytes 20 and 37 on, the CALL of step 8 with two writes from byte 54 on, and
-/// from byte 119 on END of step 9 by a stop of code 6.
-static MARKED: [u8; 133] = [
-    0x4f, 0x54, 0x4c, 0x31, 0x00, 0x00, 0xf0, 0x7f, 0x00, 0x00, 0x10, 0x00, 0x00, 0x10, 0x01, 0x00,
-    0x00, 0x00, 0x10, 0x00, 0x02, 0x03, 0x00, 0x00, 0x00, 0x00, 0x00, 0x00, 0x00, 0x08, 0x00, 0x01,
-    0x00, 0xfe, 0xff, 0x01, 0x80, 0x02, 0x03, 0x00, 0x00, 0x00, 0x00, 0x00, 0x00, 0x00, 0x0c, 0x00,
-    0x01, 0x00, 0x05, 0x00, 0x00, 0x00, 0x01, 0x08, 0x00, 0x00, 0x00, 0x00, 0x00, 0x00, 0x00, 0x3f,
-    0x00, 0x00, 0x00, 0x00, 0x00, 0x00, 0x00, 0x00, 0x00, 0x02, 0x00, 0x05, 0x00, 0x00, 0x00, 0x06,
-    0x00, 0x00, 0x00, 0x07, 0x00, 0x00, 0x00, 0x08, 0x00, 0x00, 0x00, 0x04, 0x00, 0x00, 0x00, 0x02,
-    0x00, 0x00, 0x00, 0x00, 0x00, 0x02, 0x00, 0x03, 0x00, 0x00, 0x00, 0x61, 0x62, 0x63, 0xfe, 0xff,
-    0xff, 0xff, 0x01, 0x00, 0x00, 0x00, 0xff, 0x03, 0x09, 0x00, 0x00, 0x00, 0x00, 0x00, 0x00, 0x00,
-    0x02, 0x06, 0x00, 0x00, 0x00,
-];
-
-/// A CALL with one write, and END of the next step by an exit with 1.
-static WRITTEN: [u8; 89] = [
-    0x4f, 0x54, 0x4c, 0x31, 0x00, 0x00, 0xf0, 0x7f, 0x00, 0x00, 0x10, 0x00, 0x00, 0x10, 0x01, 0x00,
-    0x00, 0x00, 0x10, 0x00, 0x01, 0x88, 0x77, 0x66, 0x55, 0x44, 0x33, 0x22, 0x11, 0x5d, 0x00, 0x00,
-    0x00, 0x01, 0x00, 0x00, 0x00, 0x02, 0x00, 0x00, 0x00, 0x03, 0x00, 0x00, 0x00, 0x04, 0x00, 0x00,
-    0x00, 0x05, 0x00, 0x00, 0x00, 0x06, 0x00, 0x00, 0x00, 0xda, 0xff, 0xff, 0xff, 0x01, 0x00, 0x00,
-    0x00, 0x00, 0x00, 0x01, 0x00, 0x02, 0x00, 0x00, 0x00, 0x61, 0x62, 0x03, 0x89, 0x77, 0x66, 0x55,
-    0x44, 0x33, 0x22, 0x11, 0x00, 0x01, 0x00, 0x00, 0x00,
-];
-
-/// What a row does to a log: cuts it to so many bytes, sets one of them, or sets four of them, from this
-/// one on, to 255.
-#[derive(Clone, Copy)]
-enum Damage {
-    Cut(usize),
-    Set(usize, u8),
-    Fill(usize),
-}
+/// The header, a CALL with one write, and END of the next step by an exit with 1.
+static WRITTEN: &[u8; 89] = b"OTL1\x00\x00\xf0\x7f\x00\x00\x10\x00\x00\x10\x01\x00\x00\x00\x10\x00\
+    \x01\x88\x77\x66\x55\x44\x33\x22\x11\x5d\x00\x00\x00\
+    \x01\x00\x00\x00\x02\x00\x00\x00\x03\x00\x00\x00\x04\x00\x00\x00\x05\x00\x00\x00\x06\x00\x00\x00\
+    \xda\xff\xff\xff\x01\x00\x00\x00\
+    \x00\x00\x01\x00\x02\x00\x00\x00ab\
+    \x03\x89\x77\x66\x55\x44\x33\x22\x11\x00\x01\x00\x00\x00";
 
 #[test]
-fn reads_a_log_of_one_exit(rt: HostRuntime) -> Result<(), Fail> {
-    let log = read_log(rt.alloc(), &EXIT)?;
-    assert_eq!(rt; log.start, START);
-    assert!(rt; log.start.is_lawful());
-    assert_eq!(rt; log.entries.len(), 2);
-    for (entry, want) in log.entries.as_slice().iter().zip([8, 9]) {
-        assert_eq!(rt; entry.step(), want);
-        assert!(rt; is_of_an_exit(entry), "step {want}");
-    }
-    Ok(())
-}
-
-/// Whether it is a CALL of number 93 that gives nothing and writes nothing, or an END by an exit with 0.
-fn is_of_an_exit(entry: &Entry<'_>) -> bool {
-    match entry {
-        Entry::Call {
-            number,
-            args,
-            result,
-            writes,
-            ..
-        } => *number == 93 && *args == [0; 6] && *result == 0 && writes.split_first().is_none(),
-        Entry::Mark { .. } => false,
-        Entry::End { cause, value, .. } => *cause == 0 && *value == 0,
-    }
-}
-
-#[test]
-fn reads_marks_and_writes(rt: HostRuntime) -> Result<(), Fail> {
-    let log = read_log(rt.alloc(), &MARKED)?;
+fn reads_and_writes_a_log(rt: HostRuntime) -> Result<(), Fail> {
+    let log = read_log(rt.alloc(), MARKED)?;
+    assert!(rt; log.start == START && log.start.is_lawful());
     assert!(rt; is_the_marked_log(&log));
+    let file = write_log(rt.alloc(), &log)?;
+    assert_eq!(rt; file.bytes(), MARKED.as_slice());
     Ok(())
 }
 
-/// Whether each field is what `MARKED` has there.
+/// Whether each entry is what `MARKED` has there.
 fn is_the_marked_log(log: &Log<'_>) -> bool {
     let [first, second, call, end] = log.entries.as_slice() else {
         return false;
     };
-    log.start == START
-        && is_mark(first, (3, 0x1_0008, 0x8001_fffe))
+    is_mark(first, (3, 0x1_0008, 0x8001_fffe))
         && is_mark(second, (3, 0x1_000c, 5))
         && is_the_marked_call(call)
         && is_end(end, (9, 2, 6))
@@ -106,14 +58,14 @@ fn is_the_marked_log(log: &Log<'_>) -> bool {
 
 fn is_mark(entry: &Entry<'_>, want: (u64, u32, u32)) -> bool {
     match entry {
-        Entry::Mark { step, pc, sum } => (*step, *pc, *sum) == want,
+        Entry::Mark { pc, sum, .. } => (entry.step(), *pc, *sum) == want,
         Entry::Call { .. } | Entry::End { .. } => false,
     }
 }
 
 fn is_end(entry: &Entry<'_>, want: (u64, u8, u32)) -> bool {
     match entry {
-        Entry::End { step, cause, value } => (*step, *cause, *value) == want,
+        Entry::End { cause, value, .. } => (entry.step(), *cause, *value) == want,
         Entry::Call { .. } | Entry::Mark { .. } => false,
     }
 }
@@ -121,13 +73,13 @@ fn is_end(entry: &Entry<'_>, want: (u64, u8, u32)) -> bool {
 fn is_the_marked_call(entry: &Entry<'_>) -> bool {
     match entry {
         Entry::Call {
-            step,
             number,
             args,
             result,
             writes,
+            ..
         } => {
-            (*step, *number, *result) == (8, 63, 4)
+            (entry.step(), *number, *result) == (8, 63, 4)
                 && *args == [0, 0x2_0000, 5, 6, 7, 8]
                 && has_the_marked_writes(writes)
         }
@@ -153,26 +105,25 @@ fn is_write(write: &Write<'_>, addr: u32, bytes: &[u8]) -> bool {
 
 #[test]
 fn tells_the_first_fault(rt: HostRuntime) -> Result<(), Fail> {
+    // The place of a byte, another value of it, and what is wrong with the log then.
     let rows = [
-        (Damage::Set(0, 0x4e), LogFault::Magic),
-        (Damage::Set(3, 0x32), LogFault::Version),
-        (Damage::Set(5, 1), LogFault::Region),
-        (Damage::Set(20, 0), LogFault::Kind { at: 20 }),
-        (Damage::Set(37, 4), LogFault::Kind { at: 37 }),
-        (Damage::Set(38, 2), LogFault::Order { at: 37 }),
-        (Damage::Fill(95), LogFault::Short { at: 54 }),
-        (Damage::Fill(103), LogFault::Short { at: 54 }),
-        (Damage::Set(95, 3), LogFault::Kind { at: 127 }),
-        (Damage::Set(95, 1), LogFault::Kind { at: 110 }),
-        (Damage::Set(120, 8), LogFault::Order { at: 119 }),
-        (Damage::Set(128, 1), LogFault::Kind { at: 119 }),
-        (Damage::Set(128, 3), LogFault::Kind { at: 119 }),
+        (0, 0x4e, LogFault::Magic),
+        (3, 0x32, LogFault::Version),
+        (5, 1, LogFault::Region),
+        (20, 0, LogFault::Kind { at: 20 }),
+        (37, 4, LogFault::Kind { at: 37 }),
+        (38, 2, LogFault::Order { at: 37 }),
+        (98, 255, LogFault::Short { at: 54 }),
+        (106, 255, LogFault::Short { at: 54 }),
+        (95, 3, LogFault::Kind { at: 127 }),
+        (95, 1, LogFault::Kind { at: 110 }),
+        (120, 8, LogFault::Order { at: 119 }),
+        (128, 1, LogFault::Kind { at: 119 }),
+        (128, 3, LogFault::Kind { at: 119 }),
     ];
-    for (damage, want) in rows {
-        assert_eq!(rt; fault_of(rt.alloc(), &MARKED, damage)?, Some(want));
+    for (at, byte, want) in rows {
+        assert_eq!(rt; fault_with(rt.alloc(), at, byte)?, Some(want));
     }
-    let lying = fault_of(rt.alloc(), &EXIT, Damage::Fill(61))?;
-    assert_eq!(rt; lying, Some(LogFault::Short { at: 20 }));
     let more = [MARKED.as_slice(), b"\0"].concat(rt.alloc())?;
     assert_eq!(rt;
         read_log(rt.alloc(), &more).err(),
@@ -181,63 +132,45 @@ fn tells_the_first_fault(rt: HostRuntime) -> Result<(), Fail> {
     Ok(())
 }
 
-#[test]
-fn tells_where_a_log_is_cut(rt: HostRuntime) -> Result<(), Fail> {
-    for len in 0..MARKED.len() {
-        let mut want = LogFault::Short { at: 0 };
-        for start in [20, 37, 54, 119] {
-            if len == start {
-                want = LogFault::NoEnd;
-            }
-            if len > start {
-                want = LogFault::Short { at: start as u64 };
-            }
-        }
-        let fault = fault_of(rt.alloc(), &MARKED, Damage::Cut(len))?;
-        assert_eq!(rt; fault, Some(want), "cut to {len}");
-    }
-    Ok(())
-}
-
-/// The fault of a file with this damage.
-fn fault_of(alloc: Global, file: &[u8], damage: Damage) -> Result<Option<LogFault>, Fail> {
-    let mut broken = Vec::from_slice(alloc, file)?;
-    match damage {
-        Damage::Cut(len) => broken.truncate(len),
-        Damage::Set(at, byte) => {
-            if let Some(place) = broken.get_mut(at) {
-                *place = byte;
-            }
-        }
-        Damage::Fill(at) => {
-            for place in broken.iter_mut().skip(at).take(4) {
-                *place = 255;
-            }
-        }
+/// The fault of `MARKED` with another byte at one place.
+fn fault_with(alloc: Global, at: usize, byte: u8) -> Result<Option<LogFault>, Fail> {
+    let mut broken = Vec::from_slice(alloc, MARKED)?;
+    if let Some(place) = broken.get_mut(at) {
+        *place = byte;
     }
     Ok(read_log(alloc, &broken).err())
 }
 
 #[test]
+fn tells_where_a_log_is_cut(rt: HostRuntime) -> Result<(), Fail> {
+    for len in 0..MARKED.len() {
+        let fault = read_log(rt.alloc(), &MARKED[..len]).err();
+        assert_eq!(rt; fault, Some(fault_of_cut(len)), "cut to {len}");
+    }
+    Ok(())
+}
+
+/// What is wrong with `MARKED` cut to so many bytes.
+fn fault_of_cut(len: usize) -> LogFault {
+    match len {
+        0..=19 => LogFault::Short { at: 0 },
+        20 | 37 | 54 | 119 => LogFault::NoEnd,
+        21..=36 => LogFault::Short { at: 20 },
+        38..=53 => LogFault::Short { at: 37 },
+        55..=118 => LogFault::Short { at: 54 },
+        _ => LogFault::Short { at: 119 },
+    }
+}
+
+#[test]
 fn writes_are_split_one_by_one(rt: HostRuntime) -> Result<(), Fail> {
-    assert!(rt; Writes::none().split_first().is_none());
     let writes = Writes::one(Write {
         addr: 0x1_0000,
         bytes: b"ab",
     });
     let (first, others) = writes.again().split_first().ok_or("there is one")?;
     assert!(rt; is_write(&first, 0x1_0000, b"ab"));
-    assert!(rt; others.split_first().is_none());
-    Ok(())
-}
-
-#[test]
-fn writes_a_log_that_was_read(rt: HostRuntime) -> Result<(), Fail> {
-    let log = read_log(rt.alloc(), &MARKED)?;
-    let file = write_log(rt.alloc(), &log)?;
-    assert_eq!(rt; file.bytes(), MARKED.as_slice());
-    let again = read_log(rt.alloc(), file.bytes())?;
-    assert!(rt; is_the_marked_log(&again));
+    assert!(rt; others.split_first().is_none() && Writes::none().split_first().is_none());
     Ok(())
 }
 
@@ -246,18 +179,16 @@ fn writes_a_log_that_was_read(rt: HostRuntime) -> Result<(), Fail> {
 fn writes_entry_by_entry(rt: HostRuntime) -> Result<(), Fail> {
     let mut writer = LogWriter::new(rt.alloc(), START);
     assert_eq!(rt; writer.len(), 20);
-    let writes = Writes::one(Write {
-        addr: 0x1_0000,
-        bytes: b"ab",
-    });
     writer.push(&Entry::Call {
         step: 0x1122_3344_5566_7788,
         number: 93,
         args: [1, 2, 3, 4, 5, 6],
         result: 0xffff_ffda,
-        writes,
+        writes: Writes::one(Write {
+            addr: 0x1_0000,
+            bytes: b"ab",
+        }),
     })?;
-    assert_eq!(rt; writer.len(), 75);
     writer.push(&Entry::End {
         step: 0x1122_3344_5566_7789,
         cause: 0,

@@ -10,30 +10,67 @@ use om_step::{MapFault, Pages, StepMeter};
 use std::alloc::Global;
 use std::test::Fail;
 
-/// `li a0,3; addi a0,a0,-1; bnez a0,-4; li a7,93; ecall` at 65536, as an executable.
-const PROGRAM: [u8; 104] = [
-    127, 69, 76, 70, 1, 1, 1, 0, 0, 0, 0, 0, 0, 0, 0, 0, 2, 0, 243, 0, 1, 0, 0, 0, 0, 0, 1, 0, 52,
-    0, 0, 0, 0, 0, 0, 0, 0, 0, 0, 0, 52, 0, 32, 0, 1, 0, 0, 0, 0, 0, 0, 0, 1, 0, 0, 0, 84, 0, 0, 0,
-    0, 0, 1, 0, 0, 0, 1, 0, 20, 0, 0, 0, 20, 0, 0, 0, 5, 0, 0, 0, 4, 0, 0, 0, 19, 5, 48, 0, 19, 5,
-    245, 255, 227, 30, 5, 254, 147, 8, 208, 5, 115, 0, 0, 0,
+/// `li a0,3; addi a0,a0,-1; bnez a0,-4; li a7,93; ecall` at 65536, as an executable: its header, its one segment's, and
+/// the words.
+static PROGRAM: &[u8; 104] = b"\x7fELF\x01\x01\x01\x00\x00\x00\x00\x00\x00\x00\x00\x00\
+    \x02\x00\xf3\x00\x01\x00\x00\x00\x00\x00\x01\x00\x34\x00\x00\x00\
+    \x00\x00\x00\x00\x00\x00\x00\x00\x34\x00\x20\x00\x01\x00\x00\x00\x00\x00\x00\x00\
+    \x01\x00\x00\x00\x54\x00\x00\x00\x00\x00\x01\x00\x00\x00\x01\x00\
+    \x14\x00\x00\x00\x14\x00\x00\x00\x05\x00\x00\x00\x04\x00\x00\x00\
+    \x13\x05\x30\x00\x13\x05\xf5\xff\xe3\x1e\x05\xfe\x93\x08\xd0\x05\x73\x00\x00\x00";
+
+/// Its log: the call at step 8, which answers 0, and from byte 65 on the end at step 9 by exit with value 0.
+pub static LOG: &[u8; 79] = b"OTL1\x00\x00\xf0\x7f\x00\x00\x10\x00\x00\x10\x01\x00\x00\x00\x10\x00\
+    \x01\x08\x00\x00\x00\x00\x00\x00\x00\x5d\x00\x00\x00\
+    \x00\x00\x00\x00\x00\x00\x00\x00\x00\x00\x00\x00\x00\x00\x00\x00\x00\x00\x00\x00\x00\x00\x00\x00\
+    \x00\x00\x00\x00\x00\x00\x00\x00\
+    \x03\x09\x00\x00\x00\x00\x00\x00\x00\x00\x00\x00\x00\x00";
+
+/// Another log of it, with marks: from bytes 20, 37, 54 on one of step 2 and two of step 8, before its call, which
+/// answers 7 and writes 1, 2, 3, 4 to 0x11004; and from byte 128 on one of step 9, before the end.
+static MARKED: &[u8; 159] = b"OTL1\x00\x00\xf0\x7f\x00\x00\x10\x00\x00\x10\x01\x00\x00\x00\x10\x00\
+    \x02\x02\x00\x00\x00\x00\x00\x00\x00\x08\x00\x01\x00\xf2\xff\xff\x7f\
+    \x02\x08\x00\x00\x00\x00\x00\x00\x00\x10\x00\x01\x00\x4d\x00\x00\x80\
+    \x02\x08\x00\x00\x00\x00\x00\x00\x00\x10\x00\x01\x00\x4d\x00\x00\x80\
+    \x01\x08\x00\x00\x00\x00\x00\x00\x00\x5d\x00\x00\x00\
+    \x00\x00\x00\x00\x00\x00\x00\x00\x00\x00\x00\x00\x00\x00\x00\x00\x00\x00\x00\x00\x00\x00\x00\x00\
+    \x07\x00\x00\x00\x01\x00\x00\x00\x04\x10\x01\x00\x04\x00\x00\x00\x01\x02\x03\x04\
+    \x02\x09\x00\x00\x00\x00\x00\x00\x00\x14\x00\x01\x00\x54\x00\x00\x80\
+    \x03\x09\x00\x00\x00\x00\x00\x00\x00\x00\x00\x00\x00\x00";
+
+/// One byte of the first log put to another value; and where the run departs then, why, and what the log and the
+/// run have.
+static CHANGES: [(usize, u8, u64, Reason, u64, u64); 6] = [
+    (29, 94, 8, Reason::Number, 94, 93),
+    (33, 7, 8, Reason::Argument(0), 7, 0),
+    (75, 5, 9, Reason::EndValue, 5, 0),
+    (74, 2, 9, Reason::EndStop, 0, 1),
+    (21, 0, 0, Reason::Passed, 93, 0x1_0000),
+    (66, 12, 9, Reason::Stopped, 12, 1),
 ];
 
-/// Its log: the call at step 8, which answers 0, and the end at step 9 by exit with value 0.
-const LOG: [u8; 79] = [
-    79, 84, 76, 49, 0, 0, 240, 127, 0, 0, 16, 0, 0, 16, 1, 0, 0, 0, 16, 0, 1, 8, 0, 0, 0, 0, 0, 0,
-    0, 93, 0, 0, 0, 0, 0, 0, 0, 0, 0, 0, 0, 0, 0, 0, 0, 0, 0, 0, 0, 0, 0, 0, 0, 0, 0, 0, 0, 0, 0,
-    0, 0, 0, 0, 0, 0, 3, 9, 0, 0, 0, 0, 0, 0, 0, 0, 0, 0, 0, 0,
-];
-
-/// Another log of it, with marks: one of step 2; two of step 8, before its call, which answers 7 and writes
-/// 1, 2, 3, 4 to 0x11004; and one of step 9, before the end.
-const MARKED: [u8; 159] = [
-    79, 84, 76, 49, 0, 0, 240, 127, 0, 0, 16, 0, 0, 16, 1, 0, 0, 0, 16, 0, 2, 2, 0, 0, 0, 0, 0, 0,
-    0, 8, 0, 1, 0, 242, 255, 255, 127, 2, 8, 0, 0, 0, 0, 0, 0, 0, 16, 0, 1, 0, 77, 0, 0, 128, 2, 8,
-    0, 0, 0, 0, 0, 0, 0, 16, 0, 1, 0, 77, 0, 0, 128, 1, 8, 0, 0, 0, 0, 0, 0, 0, 93, 0, 0, 0, 0, 0,
-    0, 0, 0, 0, 0, 0, 0, 0, 0, 0, 0, 0, 0, 0, 0, 0, 0, 0, 0, 0, 0, 0, 7, 0, 0, 0, 1, 0, 0, 0, 4,
-    16, 1, 0, 4, 0, 0, 0, 1, 2, 3, 4, 2, 9, 0, 0, 0, 0, 0, 0, 0, 20, 0, 1, 0, 84, 0, 0, 128, 3, 9,
-    0, 0, 0, 0, 0, 0, 0, 0, 0, 0, 0, 0,
+/// Two bytes of the log with marks (byte 0 to its own value), likewise.
+static MARKED_CHANGES: [([(usize, u8); 2], u64, Reason, u64, u64); 8] = [
+    ([(0, 79), (29, 12)], 2, Reason::MarkPc, 0x1_000c, 0x1_0008),
+    (
+        [(0, 79), (33, 243)],
+        2,
+        Reason::MarkSum,
+        0x7fff_fff3,
+        0x7fff_fff2,
+    ),
+    ([(63, 20), (67, 78)], 8, Reason::MarkPc, 0x1_0014, 0x1_0010),
+    (
+        [(50, 78), (63, 20)],
+        8,
+        Reason::MarkSum,
+        0x8000_004e,
+        0x8000_004d,
+    ),
+    ([(46, 20), (80, 94)], 8, Reason::MarkPc, 0x1_0014, 0x1_0010),
+    ([(0, 79), (117, 0)], 8, Reason::Outside, 0x1_0004, 0x1_0010),
+    ([(84, 7), (117, 0)], 8, Reason::Argument(0), 7, 0),
+    ([(137, 16), (155, 5)], 9, Reason::MarkPc, 0x1_0010, 0x1_0014),
 ];
 
 fn departs(step: u64, reason: Reason, told: u64, found: u64) -> Halt {
@@ -56,7 +93,7 @@ fn halted(replay: &mut Replay<'_>, most: u64) -> (u64, Option<Halt>, u64) {
     (replay.position(), None, meter.value())
 }
 
-/// The replay of the program along a log.
+/// The replay of an executable along a log.
 fn replayed(
     alloc: Global,
     elf: &Elf<'_>,
@@ -69,115 +106,51 @@ fn replayed(
     Ok(halted(&mut replay, 20))
 }
 
+/// The replay of the program along a log with two bytes put to other values.
+fn replayed_with(
+    alloc: Global,
+    log: &[u8],
+    changes: [(usize, u8); 2],
+) -> Result<(u64, Option<Halt>, u64), Fail> {
+    let mut bytes = Vec::from_slice(alloc, log)?;
+    for (at, byte) in changes {
+        if let Some(place) = bytes.get_mut(at) {
+            *place = byte;
+        }
+    }
+    let elf = read_elf(alloc, PROGRAM)?;
+    let log = read_log(alloc, bytes.as_slice())?;
+    let answer = replayed(alloc, &elf, &log)?;
+    Ok(answer)
+}
+
 #[test]
 fn exit_and_exit_group_exit(rt: HostRuntime) -> Result<(), Fail> {
-    // Those of Linux on RISC-V: write, personality, exit, exit_group, waitid.
-    for (number, want) in [
-        (64, false),
-        (92, false),
-        (93, true),
-        (94, true),
-        (95, false),
-    ] {
-        assert_eq!(rt; is_exit(number), want, "call {number}");
-    }
+    // Those of Linux on RISC-V: exit and exit_group, not personality and waitid.
+    assert!(rt; is_exit(93) && is_exit(94) && !is_exit(92) && !is_exit(95));
     Ok(())
 }
 
 #[test]
-fn a_run_ends_or_departs(rt: HostRuntime) -> Result<(), Fail> {
-    // One byte of the log put to another value, and where the replay halts.
-    let rows = [
-        (0, 79, 9, Halt::Ended),
-        (29, 94, 8, departs(8, Reason::Number, 94, 93)),
-        (33, 7, 8, departs(8, Reason::Argument(0), 7, 0)),
-        (75, 5, 9, departs(9, Reason::EndValue, 5, 0)),
-        (74, 2, 9, departs(9, Reason::EndStop, 0, 1)),
-        (21, 0, 0, departs(0, Reason::Passed, 93, 0x1_0000)),
-        (66, 12, 9, departs(9, Reason::Stopped, 12, 1)),
-    ];
-    for (at, byte, step, halt) in rows {
-        let mut bytes = LOG;
-        bytes[at] = byte;
-        let elf = read_elf(rt.alloc(), &PROGRAM)?;
-        let log = read_log(rt.alloc(), &bytes)?;
-        let answer = replayed(rt.alloc(), &elf, &log)?;
-        assert_eq!(rt; answer, (step, Some(halt), step));
+fn the_first_departure_is_told(rt: HostRuntime) -> Result<(), Fail> {
+    for (at, byte, step, reason, told, found) in CHANGES {
+        let answer = replayed_with(rt.alloc(), LOG, [(0, 79), (at, byte)])?;
+        assert_eq!(rt;
+            answer,
+            (step, Some(departs(step, reason, told, found)), step)
+        );
     }
     Ok(())
 }
 
 #[test]
 fn marks_and_writes_are_judged(rt: HostRuntime) -> Result<(), Fail> {
-    // Two bytes of the log with marks put to other values (byte 0 to its own), and where the replay halts.
-    let rows = [
-        (0, 79, 0, 79, 9, Halt::Ended),
-        (
-            29,
-            12,
-            0,
-            79,
-            2,
-            departs(2, Reason::MarkPc, 0x1_000c, 0x1_0008),
-        ),
-        (
-            33,
-            243,
-            0,
-            79,
-            2,
-            departs(2, Reason::MarkSum, 0x7fff_fff3, 0x7fff_fff2),
-        ),
-        (
-            63,
-            20,
-            67,
-            78,
-            8,
-            departs(8, Reason::MarkPc, 0x1_0014, 0x1_0010),
-        ),
-        (
-            50,
-            78,
-            63,
-            20,
-            8,
-            departs(8, Reason::MarkSum, 0x8000_004e, 0x8000_004d),
-        ),
-        (
-            46,
-            20,
-            80,
-            94,
-            8,
-            departs(8, Reason::MarkPc, 0x1_0014, 0x1_0010),
-        ),
-        (
-            117,
-            0,
-            0,
-            79,
-            8,
-            departs(8, Reason::Outside, 0x1_0004, 0x1_0010),
-        ),
-        (117, 0, 84, 7, 8, departs(8, Reason::Argument(0), 7, 0)),
-        (
-            137,
-            16,
-            155,
-            5,
-            9,
-            departs(9, Reason::MarkPc, 0x1_0010, 0x1_0014),
-        ),
-    ];
-    for (at, byte, at_too, byte_too, step, halt) in rows {
-        let mut bytes = MARKED;
-        bytes[at] = byte;
-        bytes[at_too] = byte_too;
-        let elf = read_elf(rt.alloc(), &PROGRAM)?;
-        let log = read_log(rt.alloc(), &bytes)?;
-        let answer = replayed(rt.alloc(), &elf, &log)?;
-        assert_eq!(rt; answer, (step, Some(halt), step));
+    for (changes, step, reason, told, found) in MARKED_CHANGES {
+        let answer = replayed_with(rt.alloc(), MARKED, changes)?;
+        assert_eq!(rt;
+            answer,
+            (step, Some(departs(step, reason, told, found)), step)
+        );
     }
     Ok(())
 }
@@ -204,9 +177,21 @@ fn jump_here(replay: &mut Replay<'_>) -> u32 {
     pages
 }
 
-/// What a replay that goes eight steps, jumps and goes to its end finds: how many pages there are, the first
-/// and the last byte that its call wrote, before it and behind it, and where it ends.
-type Found = (u32, [Option<u8>; 2], [Option<u8>; 2], u64);
+/// The first and the last byte that the call of the log with marks writes.
+fn written(replay: &Replay<'_>) -> [Option<u8>; 2] {
+    let memory = replay.machine().memory();
+    [memory.read_byte(0x1_1004), memory.read_byte(0x1_1007)]
+}
+
+/// What a replay that goes eight steps, jumps and goes to its end finds: how many pages there are, what its call
+/// wrote, before it and behind it, the run's last step, and how it halts.
+type Found = (
+    u32,
+    [Option<u8>; 2],
+    [Option<u8>; 2],
+    u64,
+    (u64, Option<Halt>, u64),
+);
 
 fn jumping(alloc: Global, elf: &Elf<'_>, log: &Log<'_>) -> Result<Found, MapFault>
     requires loadable { AreLoadable elf.now.segments }
@@ -216,23 +201,18 @@ fn jumping(alloc: Global, elf: &Elf<'_>, log: &Log<'_>) -> Result<Found, MapFaul
     halted(&mut replay, 8);
     let pages = jump_here(&mut replay);
     let before = written(&replay);
-    halted(&mut replay, 20);
+    let end = halted(&mut replay, 20);
     replay.clear_dirty();
-    Ok((pages, before, written(&replay), replay.position()))
-}
-
-/// The first and the last byte that the call of the marked log writes.
-fn written(replay: &Replay<'_>) -> [Option<u8>; 2] {
-    let memory = replay.machine().memory();
-    [memory.read_byte(0x1_1004), memory.read_byte(0x1_1007)]
+    Ok((pages, before, written(&replay), replay.last(), end))
 }
 
 #[test]
-fn a_replay_jumps_and_writes(rt: HostRuntime) -> Result<(), Fail> {
-    let elf = read_elf(rt.alloc(), &PROGRAM)?;
-    let log = read_log(rt.alloc(), &MARKED)?;
-    let (pages, before, behind, end) = jumping(rt.alloc(), &elf, &log)?;
-    assert_eq!(rt; (pages, end), (513, 9));
+fn a_replay_jumps_writes_and_ends(rt: HostRuntime) -> Result<(), Fail> {
+    let elf = read_elf(rt.alloc(), PROGRAM)?;
+    let log = read_log(rt.alloc(), MARKED)?;
+    let (pages, before, behind, last, end) = jumping(rt.alloc(), &elf, &log)?;
+    assert_eq!(rt; (pages, last), (513, 9));
+    assert_eq!(rt; end, (9, Some(Halt::Ended), 1));
     assert_eq!(rt; before, [Some(0), Some(0)]);
     assert_eq!(rt; behind, [Some(1), Some(4)]);
     Ok(())
