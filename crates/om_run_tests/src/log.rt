@@ -103,25 +103,26 @@ fn is_write(write: &Write<'_>, addr: u32, bytes: &[u8]) -> bool {
     write.addr == addr && write.bytes == bytes
 }
 
+/// The place of a byte of `MARKED`, another value of it, and what is wrong with the log then.
+static FAULTS: [(usize, u8, LogFault); 13] = [
+    (0, 0x4e, LogFault::Magic),
+    (3, 0x32, LogFault::Version),
+    (5, 1, LogFault::Region),
+    (20, 0, LogFault::Kind { at: 20 }),
+    (37, 4, LogFault::Kind { at: 37 }),
+    (38, 2, LogFault::Order { at: 37 }),
+    (98, 255, LogFault::Short { at: 54 }),
+    (106, 255, LogFault::Short { at: 54 }),
+    (95, 3, LogFault::Kind { at: 127 }),
+    (95, 1, LogFault::Kind { at: 110 }),
+    (120, 8, LogFault::Order { at: 119 }),
+    (128, 1, LogFault::Kind { at: 119 }),
+    (128, 3, LogFault::Kind { at: 119 }),
+];
+
 #[test]
 fn tells_the_first_fault(rt: HostRuntime) -> Result<(), Fail> {
-    // The place of a byte, another value of it, and what is wrong with the log then.
-    let rows = [
-        (0, 0x4e, LogFault::Magic),
-        (3, 0x32, LogFault::Version),
-        (5, 1, LogFault::Region),
-        (20, 0, LogFault::Kind { at: 20 }),
-        (37, 4, LogFault::Kind { at: 37 }),
-        (38, 2, LogFault::Order { at: 37 }),
-        (98, 255, LogFault::Short { at: 54 }),
-        (106, 255, LogFault::Short { at: 54 }),
-        (95, 3, LogFault::Kind { at: 127 }),
-        (95, 1, LogFault::Kind { at: 110 }),
-        (120, 8, LogFault::Order { at: 119 }),
-        (128, 1, LogFault::Kind { at: 119 }),
-        (128, 3, LogFault::Kind { at: 119 }),
-    ];
-    for (at, byte, want) in rows {
+    for (at, byte, want) in FAULTS {
         assert_eq!(rt; fault_with(rt.alloc(), at, byte)?, Some(want));
     }
     let more = [MARKED.as_slice(), b"\0"].concat(rt.alloc())?;

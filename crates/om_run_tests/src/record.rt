@@ -23,7 +23,7 @@ static HEADERS: [u8; 84] = [
 const ENTRY: u32 = 0x1_0000;
 
 /// `li a0,3; addi a0,a0,-1; bnez a0,-4; li a7,93; ecall`.
-static COUNTDOWN: [u32; 5] = [
+const COUNTDOWN: &[u32] = &[
     0x0030_0513,
     0xfff5_0513,
     0xfe05_1ee3,
@@ -33,7 +33,7 @@ static COUNTDOWN: [u32; 5] = [
 
 /// `lui a0,8; addi a0,a0,-2; addi a0,a0,-1; bnez a0,-4; li a7,93; ecall`: the call is that of step 65,535, and step 65,536
 /// has a mark, where it is below the limit.
-static LONG: [u32; 6] = [
+const LONG: &[u32] = &[
     0x0000_8537,
     0xffe5_0513,
     0xfff5_0513,
@@ -43,7 +43,7 @@ static LONG: [u32; 6] = [
 ];
 
 /// `li a0,5; ebreak`.
-static BREAK: [u32; 2] = [0x0050_0513, 0x0010_0073];
+const BREAK: &[u32] = &[0x0050_0513, 0x0010_0073];
 
 /// Makes the calls of a table behind it, each of four words: number, a0, a1, a2.
 /// `auipc s0,0; addi s0,s0,36; lw a7,0(s0); lw a0,4(s0); lw a1,8(s0); lw a2,12(s0); addi s0,s0,16; ecall; j -24`.
@@ -61,7 +61,7 @@ static CALLER: [u32; 9] = [
 
 /// Reads 65,536 bytes to 0x11000 again and again: the calls are those of steps 4, 7, 10 and so on.
 /// `lui a1,0x11; li a7,63; lui a2,16; li a0,0; ecall; j -8`.
-static READER: [u32; 6] = [
+const READER: &[u32] = &[
     0x0001_15b7,
     0x03f0_0893,
     0x0001_0637,
@@ -115,57 +115,58 @@ fn recorded(
     Ok(make_log(alloc, &elf, input, limit))
 }
 
+/// The limit; the last step, the cause and the value; and what the log is from a byte on. An exit ends the run by
+/// its rule also where the next step is the limit, and at the limit no stop is looked for.
+static RECORDS: [(&[u32], u64, (u64, u8, u32), usize, &[u8]); 8] = [
+    (COUNTDOWN, 9, (9, 0, 0), 0, LOG),
+    (COUNTDOWN, 1000, (9, 0, 0), 0, LOG),
+    (
+        COUNTDOWN,
+        0,
+        (0, 1, 0),
+        20,
+        b"\x03\0\0\0\0\0\0\0\0\x01\0\0\0\0",
+    ),
+    (
+        COUNTDOWN,
+        8,
+        (8, 1, 0),
+        20,
+        b"\x03\x08\0\0\0\0\0\0\0\x01\0\0\0\0",
+    ),
+    (
+        LONG,
+        65_536,
+        (65_536, 0, 0),
+        65,
+        b"\x03\0\0\x01\0\0\0\0\0\0\0\0\0\0",
+    ),
+    (
+        LONG,
+        65_537,
+        (65_536, 0, 0),
+        65,
+        b"\x02\0\0\x01\0\0\0\0\0\x18\0\x01\0\x4d\0\0\x80\x03\0\0\x01\0\0\0\0\0\0\0\0\0\0",
+    ),
+    (
+        BREAK,
+        100,
+        (1, 2, 6),
+        20,
+        b"\x03\x01\0\0\0\0\0\0\0\x02\x06\0\0\0",
+    ),
+    (
+        BREAK,
+        1,
+        (1, 1, 0),
+        20,
+        b"\x03\x01\0\0\0\0\0\0\0\x01\0\0\0\0",
+    ),
+];
+
 #[test]
 fn records_a_run(rt: HostRuntime) -> Result<(), Fail> {
-    // The limit; the last step, the cause and the value; and what the log is from a byte on. An exit ends the run by
-    // its rule also where the next step is the limit, and at the limit no stop is looked for.
-    let rows = [
-        (COUNTDOWN.as_slice(), 9, (9, 0, 0), 0, LOG.as_slice()),
-        (COUNTDOWN.as_slice(), 1000, (9, 0, 0), 0, LOG.as_slice()),
-        (
-            COUNTDOWN.as_slice(),
-            0,
-            (0, 1, 0),
-            20,
-            b"\x03\0\0\0\0\0\0\0\0\x01\0\0\0\0",
-        ),
-        (
-            COUNTDOWN.as_slice(),
-            8,
-            (8, 1, 0),
-            20,
-            b"\x03\x08\0\0\0\0\0\0\0\x01\0\0\0\0",
-        ),
-        (
-            LONG.as_slice(),
-            65_536,
-            (65_536, 0, 0),
-            65,
-            b"\x03\0\0\x01\0\0\0\0\0\0\0\0\0\0",
-        ),
-        (
-            LONG.as_slice(),
-            65_537,
-            (65_536, 0, 0),
-            65,
-            b"\x02\0\0\x01\0\0\0\0\0\x18\0\x01\0\x4d\0\0\x80\x03\0\0\x01\0\0\0\0\0\0\0\0\0\0",
-        ),
-        (
-            BREAK.as_slice(),
-            100,
-            (1, 2, 6),
-            20,
-            b"\x03\x01\0\0\0\0\0\0\0\x02\x06\0\0\0",
-        ),
-        (
-            BREAK.as_slice(),
-            1,
-            (1, 1, 0),
-            20,
-            b"\x03\x01\0\0\0\0\0\0\0\x01\0\0\0\0",
-        ),
-    ];
-    for (words, limit, end, from, rest) in rows {
+    for (words, limit, end, from, rest) in RECORDS {
         let file = executable(rt.alloc(), ENTRY, words)?;
         let made = recorded(rt.alloc(), file.as_slice(), b"", limit)??;
         assert_eq!(rt; (made.steps, made.cause, made.value), end, "limit {limit}");
@@ -200,6 +201,18 @@ fn is_answer(entry: &Entry<'_>, value: u32, bytes: &[u8]) -> bool {
     }
 }
 
+/// The place of the first entry that isn't what the table of calls has there.
+fn first_wrong(entries: &[Entry<'_>]) -> Option<usize> {
+    let mut place = 0usize;
+    for (entry, (_, result, bytes)) in entries.iter().zip(&CALLS) {
+        if !is_answer(entry, *result, bytes) {
+            return Some(place);
+        }
+        place = place.saturating_add(1);
+    }
+    None
+}
+
 #[test]
 fn answers_calls(rt: HostRuntime) -> Result<(), Fail> {
     let words = calling(rt.alloc())?;
@@ -207,48 +220,27 @@ fn answers_calls(rt: HostRuntime) -> Result<(), Fail> {
     let made = recorded(rt.alloc(), file.as_slice(), b"hello, world", 1000)??;
     let log = read_log(rt.alloc(), made.bytes.bytes())?;
     assert_eq!(rt; log.entries.len(), 19);
-    for (entry, (call, result, bytes)) in log.entries.as_slice().iter().zip(&CALLS) {
-        assert!(rt; is_answer(entry, *result, bytes), "{call:?}");
-    }
+    assert_eq!(rt; first_wrong(log.entries.as_slice()), None);
     assert_eq!(rt; (made.steps, made.cause, made.value), (127, 0, 7));
     Ok(())
 }
+
+/// The segment's address: it ends at 2^32; it holds the stack's first byte; the heap behind it holds that;
+/// the heap passes the last address, and doesn't. Then a log that is too long.
+static REFUSALS: [(&[u32], u32, Option<RecordFault>); 6] = [
+    (BREAK, 0xffff_f000, Some(RecordFault::NoRoom { a: 2, b: 2 })),
+    (BREAK, 0x7fef_f800, Some(RecordFault::NoRoom { a: 0, b: 1 })),
+    (BREAK, 0x7fef_0000, Some(RecordFault::NoRoom { a: 1, b: 2 })),
+    (BREAK, 0xfff0_0000, Some(RecordFault::NoRoom { a: 2, b: 2 })),
+    (BREAK, 0xffef_f000, None),
+    (READER, ENTRY, Some(RecordFault::TooLong { step: 3073 })),
+];
 
 #[test]
 fn tells_why_there_is_no_log(rt: HostRuntime) -> Result<(), Fail> {
     let mut input = Vec::new(rt.alloc());
     input.resize(1024 * 65_536, 7)?;
-    // The segment's address: it ends at 2^32; it holds the stack's first byte; the heap behind it holds that;
-    // the heap passes the last address, and doesn't. Then a log that is too long.
-    let rows = [
-        (
-            BREAK.as_slice(),
-            0xffff_f000,
-            Some(RecordFault::NoRoom { a: 2, b: 2 }),
-        ),
-        (
-            BREAK.as_slice(),
-            0x7fef_f800,
-            Some(RecordFault::NoRoom { a: 0, b: 1 }),
-        ),
-        (
-            BREAK.as_slice(),
-            0x7fef_0000,
-            Some(RecordFault::NoRoom { a: 1, b: 2 }),
-        ),
-        (
-            BREAK.as_slice(),
-            0xfff0_0000,
-            Some(RecordFault::NoRoom { a: 2, b: 2 }),
-        ),
-        (BREAK.as_slice(), 0xffef_f000, None),
-        (
-            READER.as_slice(),
-            ENTRY,
-            Some(RecordFault::TooLong { step: 3073 }),
-        ),
-    ];
-    for (words, address, fault) in rows {
+    for (words, address, fault) in REFUSALS {
         let file = executable(rt.alloc(), address, words)?;
         let made = recorded(rt.alloc(), file.as_slice(), input.as_slice(), 10_000)?;
         assert_eq!(rt; made.err(), fault, "at {address}");
