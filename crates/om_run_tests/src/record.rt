@@ -169,7 +169,7 @@ fn records_a_run(rt: HostRuntime) -> Result<(), Fail> {
     for (words, limit, end, from, rest) in RECORDS {
         let file = executable(rt.alloc(), ENTRY, words)?;
         let made = recorded(rt.alloc(), file.as_slice(), b"", limit)??;
-        assert_eq!(rt; (made.steps, made.cause, made.value), end, "limit {limit}");
+        assert_eq!(rt; (made.steps, made.cause, made.value), end);
         assert!(rt;
             made.bytes.bytes().get(from..) == Some(rest),
             "limit {limit}"
@@ -243,7 +243,7 @@ fn tells_why_there_is_no_log(rt: HostRuntime) -> Result<(), Fail> {
     for (words, address, fault) in REFUSALS {
         let file = executable(rt.alloc(), address, words)?;
         let made = recorded(rt.alloc(), file.as_slice(), input.as_slice(), 10_000)?;
-        assert_eq!(rt; made.err(), fault, "at {address}");
+        assert_eq!(rt; made.err(), fault);
     }
     Ok(())
 }

@@ -210,10 +210,11 @@ fn jumping(alloc: Global, elf: &Elf<'_>, log: &Log<'_>) -> Result<Found, MapFaul
 fn a_replay_jumps_writes_and_ends(rt: HostRuntime) -> Result<(), Fail> {
     let elf = read_elf(rt.alloc(), PROGRAM)?;
     let log = read_log(rt.alloc(), MARKED)?;
-    let (pages, before, behind, last, end) = jumping(rt.alloc(), &elf, &log)?;
-    assert_eq!(rt; (pages, last), (513, 9));
-    assert_eq!(rt; end, (9, Some(Halt::Ended), 1));
-    assert_eq!(rt; before, [Some(0), Some(0)]);
-    assert_eq!(rt; behind, [Some(1), Some(4)]);
+    let found = jumping(rt.alloc(), &elf, &log)?;
+    let end = (9, Some(Halt::Ended), 1);
+    assert_eq!(rt;
+        found,
+        (513, [Some(0), Some(0)], [Some(1), Some(4)], 9, end)
+    );
     Ok(())
 }
