@@ -70,7 +70,8 @@ const READER: &[u32] = &[
     0xff9f_f06f,
 ];
 
-/// The calls of a program: the number and a0 to a2, the result, and the bytes that are written. The heap is that from 0x11000 to 0x111000, and the input `hello, world`.
+/// The calls of a program: the number and a0 to a2, the result, and the bytes that are written. The heap is that from
+/// 0x11000 to 0x111000, and the input `hello, world`.
 static CALLS: [([u32; 4], u32, &[u8]); 18] = [
     ([63, 1, 0x1_0800, 4], 0xffff_fff7, b""),
     ([63, 0, 0x20, 4], 0xffff_fff2, b""),
@@ -104,7 +105,7 @@ fn executable(alloc: Global, address: u32, words: &[u32]) -> Result<Vec<u8>, NoM
     Ok(file)
 }
 
-/// What is recorded of such an executable.
+/// What is recorded of an executable.
 fn recorded(
     alloc: Global,
     executable: &[u8],
