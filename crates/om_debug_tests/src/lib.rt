@@ -1,2 +1,5 @@
 //! Tests of executables and their debugging information: the crates `om_elf`, `om_die`, `om_names`, `om_image` and `om_view`.
 #![tactic(auto)]
+
+#[cfg(test)]
+mod elf;

@@ -15,8 +15,6 @@ mod sections;
 mod segment;
 mod string_table;
 mod tables;
-#[cfg(test)]
-mod tests;
 
 pub use elf::{Elf, read_elf};
 pub use fault::ElfFault;
