@@ -2,4 +2,8 @@
 #![tactic(auto)]
 
 #[cfg(test)]
+mod die;
+#[cfg(test)]
+mod die_forms;
+#[cfg(test)]
 mod elf;

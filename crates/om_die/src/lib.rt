@@ -18,24 +18,16 @@ mod form;
 mod head;
 mod laws;
 mod pieces;
-#[cfg(test)]
-mod range_tests;
 mod ranges;
 mod reader;
 mod sections;
 mod settling;
 mod skipped;
 mod table;
-#[cfg(test)]
-mod table_tests;
 mod tables;
 mod targets;
 mod unit;
-#[cfg(test)]
-mod unit_tests;
 mod value;
-#[cfg(test)]
-mod value_tests;
 
 pub use attribute::{Attr, AttrValue};
 pub use die::Die;
