@@ -7,3 +7,5 @@ mod die;
 mod die_forms;
 #[cfg(test)]
 mod elf;
+#[cfg(test)]
+mod names;

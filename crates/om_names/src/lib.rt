@@ -18,8 +18,6 @@ mod owner;
 mod pieces;
 mod ranges;
 mod tags;
-#[cfg(test)]
-mod tests;
 
 pub use counts::Counts;
 pub use debug::{Debug, read_debug};
