@@ -8,4 +8,6 @@ mod die_forms;
 #[cfg(test)]
 mod elf;
 #[cfg(test)]
+mod image;
+#[cfg(test)]
 mod names;

@@ -14,8 +14,6 @@ mod programs;
 mod section;
 mod segment;
 mod small;
-#[cfg(test)]
-mod tests;
 
 pub use laws::everything_is_found;
 pub use program::Program;
