@@ -11,3 +11,5 @@ mod elf;
 mod image;
 #[cfg(test)]
 mod names;
+#[cfg(test)]
+mod view;
