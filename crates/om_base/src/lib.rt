@@ -18,8 +18,6 @@ mod nul;
 mod numbers;
 mod span;
 mod spans;
-#[cfg(test)]
-mod tests;
 mod text;
 
 pub use bytes::Bytes;

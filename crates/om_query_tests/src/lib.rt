@@ -1,2 +1,5 @@
 //! Tests of queries, tables and what surrounds them: the crates `om_base`, `om_io`, `om_parse`, `om_eval` and `om_table`.
 #![tactic(auto)]
+
+#[cfg(test)]
+mod base;
