@@ -13,8 +13,6 @@ mod mem_sink;
 mod shelf;
 mod sink;
 mod std_sink;
-#[cfg(test)]
-mod tests;
 mod writing;
 
 pub use dir_shelf::DirShelf;
