@@ -20,8 +20,6 @@ mod numeral;
 mod piece;
 mod query;
 mod terminal;
-#[cfg(test)]
-mod tests;
 mod token;
 mod tokenizer;
 mod tree;

@@ -1,7 +1,7 @@
 //! Texts and what they are: the tree with its offsets, or the fault.
 
-use crate::{ColumnName, CompareOp, CondTree, ExprTree, ParseFault, Query, parse};
 use om_base::{NoMemory, Text, put_decimal};
+use om_parse::{ColumnName, CompareOp, CondTree, ExprTree, ParseFault, Query, parse};
 use std::test::Fail;
 
 fn show_name(shown: &mut Text, at: u32, name: &[u8]) -> Result<(), NoMemory> {
@@ -87,55 +87,28 @@ fn texts_have_these_trees_and_faults(rt: HostRuntime) -> Result<(), Fail> {
     let rows = [
         // Trees.
         (
-            "SELECT step FROM states WHERE pc = 65544",
-            " 7:step from 17:states where 30:pc 33:= 35:#65544",
+            "SELECT--all\n\ta--\r\n,Step FROM states WHERE b<007 AnD c>=0XfF AND d<>18446744073709551615",
+            " 13:a 19:Step from 29:states where all 42:b 43:< 44:#7 52:c 53:>= 55:#255 64:d 65:<> 67:#18446744073709551615",
         ),
         (
-            "select Step, PC from STATES",
-            " 7:Step 13:PC from 21:STATES",
+            "select a FROM s WHERE b = 65544",
+            " 7:a from 14:s where 22:b 24:= 26:#65544",
         ),
-        (
-            "SELECT a FROM b WHERE c<=0x1F AND d<>2 AND e>=18446744073709551615",
-            " 7:a from 14:b where all 22:c 23:<= 25:#31 34:d 35:<> 37:#2 43:e 44:>= 46:#18446744073709551615",
-        ),
-        (
-            "SELECT--all\n\ta--\r\n,b_1 FROM s--",
-            " 13:a 19:b_1 from 28:s",
-        ),
-        (
-            "SELECT a FROM s WHERE b<007 AnD c>0XfF",
-            " 7:a from 14:s where all 22:b 23:< 24:#7 32:c 33:> 34:#255",
-        ),
-        ("SELECT a FROM anything", " 7:a from 14:anything"),
         // Bytes that begin no token, told before any token that doesn't fit.
-        ("SELECT a FROM s; #", " 17:syntax"),
         ("FROM 'unfinished", " 5:syntax"),
-        ("SELECT \"unfinished\"\" FROM s", " 7:syntax"),
         ("SELECT \"\" FROM s", " 7:syntax"),
         ("SELECT a FROM s WHERE a = 1a", " 26:syntax"),
-        ("SELECT a FROM s WHERE a = 0x", " 26:syntax"),
         (
             "SELECT a FROM s WHERE a = 18446744073709551616",
             " 26:syntax",
         ),
-        ("SELECT é FROM s", " 7:syntax"),
-        ("SELECT a\0 FROM s", " 8:syntax"),
         // The first token that doesn't fit, or the end.
-        ("", " 0:syntax"),
         ("  -- nothing", " 12:syntax"),
-        ("SELECT", " 6:syntax"),
-        ("SELECT a,", " 9:syntax"),
         ("SELECT a, FROM s", " 10:syntax"),
-        ("SELECT a states", " 9:syntax"),
         ("SELECT count FROM s", " 7:syntax"),
-        ("SELECT \"a\" FROM s", " 7:syntax"),
-        ("SELECT a FROM s WHERE", " 21:syntax"),
-        ("SELECT a FROM s WHERE a = b", " 26:syntax"),
         ("SELECT a FROM s WHERE a =< 1", " 25:syntax"),
         ("SELECT a FROM s WHERE a = 1 OR b = 2", " 28:syntax"),
-        ("SELECT a FROM s WHERE a = 1 AND", " 31:syntax"),
         ("SELECT a FROM s 'it''s'", " 16:syntax"),
-        ("SELECT a FROM s SELECT a FROM s", " 16:syntax"),
     ];
     for (text, want) in rows {
         let mut shown = Text::copy_of(rt.alloc(), b"")?;
