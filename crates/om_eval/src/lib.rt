@@ -13,8 +13,6 @@ mod evaluation;
 mod expr;
 mod look_meter;
 mod row_view;
-#[cfg(test)]
-mod tests;
 mod truth;
 mod value;
 

@@ -4,6 +4,8 @@
 #[cfg(test)]
 mod base;
 #[cfg(test)]
+mod eval;
+#[cfg(test)]
 mod io;
 #[cfg(test)]
 mod parse;

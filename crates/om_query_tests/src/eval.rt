@@ -1,13 +1,13 @@
-//! Each public call once, over views made for it.
+//! Each public call of `om_eval` once, over views made for it.
 
 ghost use Rattle.std.specs.Prelude.{◌==◌, if◌then◌else◌};
 ghost use Rattle.om_eval.specs.declared.value.Owned.TheVariants.{Null};
 
-use crate::{
+use om_base::{Interval, NoMemory, Text};
+use om_eval::{
     Catalog, Cells, Column, ColumnId, Compare, Cond, Expr, LookMeter, Owned, RowView, Truth, Value,
     VarInfo, look, recheck, truth_of, value_at, value_of,
 };
-use om_base::{Interval, NoMemory, Text};
 use sqlite_items::Items;
 use std::alloc::Global;
 use std::test::Fail;
@@ -47,15 +47,6 @@ impl Cells for Pair {
     }
 }
 
-const COMPARISONS: [Compare; 6] = [
-    Compare::Equal,
-    Compare::NotEqual,
-    Compare::Less,
-    Compare::LessEqual,
-    Compare::Greater,
-    Compare::GreaterEqual,
-];
-
 fn cell(table: u32) -> Expr {
     Expr::Column(Column {
         table,
@@ -70,35 +61,46 @@ fn text(alloc: Global, bytes: &[u8]) -> Result<Owned, NoMemory> {
 // SQL-92, section 8.2, general rules 1 to 5.
 #[test]
 fn a_cell_compares_with_a_numeral(rt: HostRuntime) -> Result<(), Fail> {
-    let (yes, no, unknown) = (Truth::Yes, Truth::No, Truth::Unknown);
+    // Below the numeral, equal to it, and above it.
     let rows = [
-        (Owned::Int(3), [no, yes, yes, yes, no, no]),
-        (Owned::Int(4), [yes, no, no, yes, no, yes]),
-        (Owned::Int(5), [no, yes, no, no, yes, yes]),
-        (Owned::Int(-9), [no, yes, yes, yes, no, no]),
-        (Owned::Null, [unknown; 6]),
+        (Compare::Equal, Truth::No, Truth::Yes, Truth::No),
+        (Compare::NotEqual, Truth::Yes, Truth::No, Truth::Yes),
+        (Compare::Less, Truth::Yes, Truth::No, Truth::No),
+        (Compare::LessEqual, Truth::Yes, Truth::Yes, Truth::No),
+        (Compare::Greater, Truth::No, Truth::No, Truth::Yes),
+        (Compare::GreaterEqual, Truth::No, Truth::Yes, Truth::Yes),
     ];
-    for (value, wants) in rows {
-        let view = Everywhere(value);
-        for (compare, want) in COMPARISONS.iter().zip(wants.iter()) {
-            let cond = Cond::Compare(*compare, cell(0), Expr::Numeral(4));
-            assert_eq!(rt; truth_of(&cond, &view), *want, "{compare:?}");
-        }
+    for (compare, below, equal, above) in rows {
+        let cond = Cond::Compare(compare, cell(0), Expr::Numeral(4));
+        assert_eq!(rt;
+            truth_of(&cond, &Everywhere(Owned::Int(-9))),
+            below,
+            "{compare:?}"
+        );
+        assert_eq!(rt;
+            truth_of(&cond, &Everywhere(Owned::Int(4))),
+            equal,
+            "{compare:?}"
+        );
+        assert_eq!(rt;
+            truth_of(&cond, &Everywhere(Owned::Int(5))),
+            above,
+            "{compare:?}"
+        );
+        assert_eq!(rt; truth_of(&cond, &Everywhere(Owned::Null)), Truth::Unknown);
     }
     Ok(())
 }
 
 #[test]
 fn texts_compare_by_bytes(rt: HostRuntime) -> Result<(), Fail> {
+    // The first is below the second; last, the two are the same.
     let rows = [
         (b"down".as_slice(), b"main".as_slice(), Truth::Yes),
-        (b"main", b"down", Truth::No),
         (b"down.n", b"e", Truth::Yes),
         (b"down", b"down.n", Truth::Yes),
+        (b"a", b"\xff", Truth::Yes),
         (b"down", b"down", Truth::No),
-        (b"down ", b"down", Truth::No),
-        (b"\xff", b"a", Truth::No),
-        (b"", b"\0", Truth::Yes),
     ];
     for (first, second, want) in rows {
         let pair = Pair {
