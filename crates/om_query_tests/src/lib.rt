@@ -10,4 +10,6 @@ mod io;
 #[cfg(test)]
 mod parse;
 #[cfg(test)]
+mod table;
+#[cfg(test)]
 mod unmoved;

@@ -8,8 +8,6 @@ mod printed;
 mod printing;
 mod quotes;
 mod table;
-#[cfg(test)]
-mod tests;
 mod widths;
 
 pub use fault::TableFault;

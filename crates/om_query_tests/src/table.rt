@@ -3,9 +3,9 @@
 ghost use Rattle.std.specs.Prelude.{◌≡◌, length, IfOk};
 ghost use Rattle.om_table.specs.Text.{IsTable};
 
-use crate::{Style, Table, TableFault, print_table};
 use om_base::{Items, NoMemory, Text};
 use om_eval::Owned;
+use om_table::{Style, Table, TableFault, print_table};
 use std::alloc::Global;
 use std::test::Fail;
 
