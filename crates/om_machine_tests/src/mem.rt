@@ -4,7 +4,7 @@ ghost use Rattle.std.specs.Prelude.{◌≡◌, ◌+◌, ◌^◌, ◌<◌, ◌≤
 ghost use Rattle.om_mem.specs.Contents.{region_in};
 
 use om_base::NoMemory;
-use om_mem::{Memory, Region, Regions, WriteOutside, map_regions};
+use om_mem::{Memory, Region, Regions, map_regions};
 use std::alloc::Global;
 use std::test::Fail;
 
@@ -44,7 +44,7 @@ fn three_pages(alloc: Global) -> Result<Memory, Fail> {
 }
 
 /// Whether a page counts as written.
-fn is_dirty(memory: &Memory, page: u32) -> bool {
+pub(crate) fn is_dirty(memory: &Memory, page: u32) -> bool {
     if page < memory.pages() {
         memory.is_dirty(page)
     } else {
@@ -61,20 +61,33 @@ fn dirty_pages(memory: &Memory) -> (bool, bool, bool) {
     )
 }
 
+/// Writes a number of four bytes; whether it may be written.
+fn put_number(memory: &mut Memory, address: u32, number: u32) -> bool {
+    memory.write(address, 4, number)
+}
+
+/// Writes some bytes: the first address that may not be written, if one may not.
+fn put_bytes(memory: &mut Memory, address: u32, bytes: &[u8]) -> Option<u32> {
+    match memory.write_bytes(address, bytes) {
+        Ok(()) => None,
+        Err(fault) => Some(fault.addr),
+    }
+}
+
 #[test]
 fn numbers_are_read_as_they_were_written(rt: HostRuntime) -> Result<(), Fail> {
     let mut memory = three_pages(rt.alloc())?;
     assert_eq!(rt; dirty_pages(&memory), (false, false, true));
     assert_eq!(rt; memory.fetch(4096), Some(0x12345678));
     assert_eq!(rt; memory.number(4099, 4), Some(0x00000912));
-    assert!(rt; memory.write(17, 4, 0x11223344));
+    assert!(rt; put_number(&mut memory, 17, 0x11223344));
     assert_eq!(rt; memory.load(17, 4), Some(0x11223344));
     assert_eq!(rt; memory.number(18, 2), Some(0x2233));
     assert_eq!(rt; memory.read_byte(20), Some(0x11));
     assert_eq!(rt; memory.read_byte(21), Some(0));
     assert_eq!(rt; dirty_pages(&memory), (true, false, true));
     // After the last address comes address 0.
-    assert!(rt; memory.write(4294967294, 4, 0xaabbccdd));
+    assert!(rt; put_number(&mut memory, 4294967294, 0xaabbccdd));
     assert_eq!(rt; memory.load(4294967294, 4), Some(0xaabbccdd));
     assert_eq!(rt; memory.number(0, 2), Some(0xaabb));
     assert_eq!(rt; dirty_pages(&memory), (true, true, true));
@@ -91,7 +104,7 @@ fn rights_are_asked_for_each_byte(rt: HostRuntime) -> Result<(), Fail> {
     assert!(rt; memory.may(4096, 5));
     assert!(rt; !memory.may(4096, 6));
     assert!(rt; !memory.may(8192, 4));
-    assert!(rt; !memory.write(4094, 4, 0xffffffff));
+    assert!(rt; !put_number(&mut memory, 4094, 0xffffffff));
     assert_eq!(rt; memory.load(4094, 4), Some(0x56780000));
     Ok(())
 }
@@ -99,11 +112,13 @@ fn rights_are_asked_for_each_byte(rt: HostRuntime) -> Result<(), Fail> {
 #[test]
 fn many_bytes_are_written(rt: HostRuntime) -> Result<(), Fail> {
     let mut memory = three_pages(rt.alloc())?;
-    let refused = memory.write_bytes(4093, &[1, 2, 3, 4]);
-    assert_eq!(rt; refused, Err(WriteOutside { addr: 4096 }));
+    assert_eq!(rt;
+        put_bytes(&mut memory, 4093, b"\x01\x02\x03\x04"),
+        Some(4096)
+    );
     assert_eq!(rt; memory.load(4092, 4), Some(0));
-    let wrapped = memory.write_bytes(4294967293, &[1, 2, 3, 4, 5, 6, 7]);
-    assert!(rt; wrapped.is_ok());
+    let wrapped = put_bytes(&mut memory, 4294967293, b"\x01\x02\x03\x04\x05\x06\x07");
+    assert_eq!(rt; wrapped, None);
     assert_eq!(rt; memory.number(4294967292, 4), Some(0x03020100));
     assert_eq!(rt; memory.number(0, 4), Some(0x07060504));
     assert_eq!(rt; dirty_pages(&memory), (true, true, true));
@@ -168,14 +183,25 @@ fn page_bytes(memory: &Memory, page: u32) -> &[u8] {
     }
 }
 
+/// Memory of these regions.
+fn two_pages(alloc: Global) -> Result<Memory, Fail> {
+    let regions = two_regions(alloc)?;
+    Ok(map_regions(alloc, &regions)?)
+}
+
+/// Sets a page, where there is one of as many bytes.
+fn set(memory: &mut Memory, page: u32, bytes: &[u8]) {
+    if page < memory.pages() && memory.page(page).len() == bytes.len() {
+        memory.set_page(page, bytes);
+    }
+}
+
 #[test]
 fn pages_are_the_bytes_of_all_regions(rt: HostRuntime) -> Result<(), Fail> {
-    let regions = two_regions(rt.alloc())?;
-    let mut memory = map_regions(rt.alloc(), &regions)?;
+    let mut memory = two_pages(rt.alloc())?;
     assert_eq!(rt; memory.pages(), 2);
     assert_eq!(rt; page_bytes(&memory, 1), [0; 5].as_slice());
-    let done = memory.write_bytes(69534, &[1, 2, 3, 4]);
-    assert!(rt; done.is_ok());
+    assert_eq!(rt; put_bytes(&mut memory, 69534, b"\x01\x02\x03\x04"), None);
     assert_eq!(rt; memory.number(69533, 4), Some(0x03020100));
     assert_eq!(rt; memory.number(69536, 4), Some(0x00000403));
     assert!(rt; page_bytes(&memory, 0).starts_with(&[3, 4, 0]));
@@ -186,11 +212,8 @@ fn pages_are_the_bytes_of_all_regions(rt: HostRuntime) -> Result<(), Fail> {
 
 #[test]
 fn a_page_is_set(rt: HostRuntime) -> Result<(), Fail> {
-    let regions = two_regions(rt.alloc())?;
-    let mut memory = map_regions(rt.alloc(), &regions)?;
-    assert_eq!(rt; memory.pages(), 2);
-    assert_eq!(rt; memory.page(1).len(), 5);
-    memory.set_page(1, &[9, 8, 7, 6, 5]);
+    let mut memory = two_pages(rt.alloc())?;
+    set(&mut memory, 1, b"\x09\x08\x07\x06\x05");
     assert_eq!(rt; memory.number(69532, 4), Some(0x05060708));
     assert_eq!(rt; dirty_pages(&memory), (false, true, false));
     memory.clear_dirty();

@@ -1,11 +1,9 @@
 //! Programs stepped by hand.
 
-ghost use Rattle.std.specs.Prelude.{◌-◌, ◌^◌, ◌<◌};
-
+use crate::mem::is_dirty;
 use om_elf::read_elf;
 use om_log::{Entry, Log, Writes, read_log};
-use om_mem::WriteOutside;
-use om_step::{Cause, Machine, Outcome, Pages, Start, StepMeter, Touched};
+use om_step::{Cause, Machine, Outcome, Pages, Start, StepMeter};
 use std::alloc::{AllocError, Global};
 use std::test::Fail;
 
@@ -38,55 +36,59 @@ const START: Start = Start {
     heap_size: 4096,
 };
 
-/// The answer to the call at which the machine stands; where it stands at none, nothing happens.
-fn answer<'a>(
-    machine: &mut Machine,
-    value: u32,
-    writes: Writes<'a>,
-    meter: &mut StepMeter,
-) -> Result<Touched<'a>, WriteOutside>
-    requires { meter.old < 2 ^ 64 - 1 }
-{
-    match machine.look() {
-        Outcome::Call => machine.answer_call(value, writes, meter),
-        Outcome::Next(_) | Outcome::Stop(_) => Ok(Touched::Nothing),
-    }
+/// The machine at an instruction with the loop behind it.
+fn machine_at(alloc: Global, first: u32) -> Result<Machine, Fail> {
+    let file = program(alloc, first)?;
+    let elf = read_elf(alloc, file.as_slice())?;
+    Ok(Machine::load(alloc, &elf, START)?)
 }
 
-/// In each line the pc and a0 before a step, and what it tells.
+/// The pc and a0, what a step tells, and by how much it raises the meter.
+fn told_by_step(alloc: Global, machine: &mut Machine) -> Result<String, AllocError> {
+    let mut meter = StepMeter::new();
+    let (pc, a0) = (machine.pc(), machine.reg(10));
+    let outcome = machine.step(&mut meter);
+    let steps = meter.value();
+    format!(in alloc; "{pc} {a0} {outcome:?} {steps}")
+}
+
+/// Answers the call at which the machine stands, with the value 7: the first address that could not be written, if
+/// one couldn't, and by how much the meter rises. Where it stands at no call, nothing happens.
+fn answer(machine: &mut Machine, writes: Writes<'_>) -> (Option<u32>, u64) {
+    let mut meter = StepMeter::new();
+    let outside = match machine.look() {
+        Outcome::Call => match machine.answer_call(7, writes, &mut meter) {
+            Ok(_) => None,
+            Err(fault) => Some(fault.addr),
+        },
+        Outcome::Next(_) | Outcome::Stop(_) => None,
+    };
+    (outside, meter.value())
+}
+
+/// In each line the pc and a0 before a step, what it tells, and by how much it raises the meter.
 const STEPS: &str = "\
-65536 0 Next(Reg(10))
-65540 3 Next(Reg(10))
-65544 2 Next(Nothing)
-65540 2 Next(Reg(10))
-65544 1 Next(Nothing)
-65540 1 Next(Reg(10))
-65544 0 Next(Nothing)
-65548 0 Next(Reg(17))
-65552 0 Call";
+65536 0 Next(Reg(10)) 1
+65540 3 Next(Reg(10)) 1
+65544 2 Next(Nothing) 1
+65540 2 Next(Reg(10)) 1
+65544 1 Next(Nothing) 1
+65540 1 Next(Reg(10)) 1
+65544 0 Next(Nothing) 1
+65548 0 Next(Reg(17)) 1
+65552 0 Call 0";
 
 #[test]
 fn a_loop_counts_down(rt: HostRuntime) -> Result<(), Fail> {
-    let file = program(rt.alloc(), LOAD_THREE)?;
-    let elf = read_elf(rt.alloc(), file.as_slice())?;
-    let mut machine = Machine::load(rt.alloc(), &elf, START)?;
+    let mut machine = machine_at(rt.alloc(), LOAD_THREE)?;
     assert_eq!(rt; machine.reg(2), 0x7ff0_0ff0);
-    let mut meter = StepMeter::new();
     for wanted in STEPS.lines() {
-        assert!(rt; meter.value() < 100);
-        let (pc, a0) = (machine.pc(), machine.reg(10));
-        let outcome = machine.step(&mut meter);
-        let told = format!(in rt.alloc(); "{pc} {a0} {outcome:?}")?;
+        let told = told_by_step(rt.alloc(), &mut machine)?;
         assert_eq!(rt; told.as_str(), wanted);
     }
-    assert!(rt; meter.value() == 8);
-    let touched = answer(&mut machine, 7, Writes::none(), &mut meter);
-    assert!(rt; matches!(touched, Ok(Touched::Call(writes)) if writes.split_first().is_none()));
-    assert_eq!(rt;
-        (meter.value(), machine.pc(), machine.reg(10)),
-        (9, 65556, 7)
-    );
-    assert!(rt; matches!(machine.look(), Outcome::Stop(Cause::Fetch)));
+    assert_eq!(rt; answer(&mut machine, Writes::none()), (None, 1));
+    let told = told_by_step(rt.alloc(), &mut machine)?;
+    assert_eq!(rt; told.as_str(), "65556 7 Stop(Fetch) 0");
     assert_eq!(rt; Cause::Fetch.code(), 1);
     Ok(())
 }
@@ -120,24 +122,16 @@ fn writes_at<'a>(log: &Log<'a>, place: usize) -> Writes<'a> {
 
 #[test]
 fn a_call_writes(rt: HostRuntime) -> Result<(), Fail> {
-    let file = program(rt.alloc(), 0x73)?; // ecall
-    let elf = read_elf(rt.alloc(), file.as_slice())?;
     let log = read_log(rt.alloc(), CALLS)?;
-    let mut machine = Machine::load(rt.alloc(), &elf, log.start)?;
-    let mut meter = StepMeter::new();
-
-    let refused = answer(&mut machine, 4, writes_at(&log, 0), &mut meter);
-    assert!(rt; matches!(refused, Err(WriteOutside { addr: 0x1_2000 })));
-    assert!(rt; meter.value() == 0);
-
-    let touched = answer(&mut machine, 4, writes_at(&log, 1), &mut meter);
-    assert!(rt; matches!(touched, Ok(Touched::Call(_))));
+    let mut machine = machine_at(rt.alloc(), 0x73)?; // ecall
+    assert_eq!(rt;
+        answer(&mut machine, writes_at(&log, 0)),
+        (Some(0x1_2000), 0)
+    );
+    assert_eq!(rt; answer(&mut machine, writes_at(&log, 1)), (None, 1));
     assert_eq!(rt; machine.memory().number(0x1_1000, 4), Some(0x08090201));
     assert_eq!(rt; machine.memory().number(0x1_1ffc, 4), Some(0));
-    assert_eq!(rt;
-        (meter.value(), machine.pc(), machine.reg(10)),
-        (1, 65540, 4)
-    );
+    assert_eq!(rt; (machine.pc(), machine.reg(10)), (65540, 7));
     Ok(())
 }
 
@@ -157,39 +151,39 @@ impl Pages for SecondPage<'_> {
     }
 }
 
-/// Whether a step wrote the four bytes from the stack's top on.
-fn is_push(outcome: &Outcome<'_>) -> bool {
-    matches!(
-        outcome,
-        Outcome::Next(Touched::Bytes {
-            addr: 0x7ff0_0ff0,
-            len: 4
-        })
-    )
-}
-
-#[test]
-fn a_machine_is_put_back(rt: HostRuntime) -> Result<(), Fail> {
-    let file = program(rt.alloc(), 0x00212023)?; // sw sp,0(sp)
-    let elf = read_elf(rt.alloc(), file.as_slice())?;
-    let mut machine = Machine::load(rt.alloc(), &elf, START)?;
-    assert_eq!(rt; machine.memory().pages(), 3);
+/// Makes a step, and puts the machine back with the second page that it had: what was at the stack's top between.
+fn step_and_back(alloc: Global, machine: &mut Machine) -> Result<Option<u8>, Fail> {
+    if machine.memory().pages() < 2 {
+        return Err("there are two pages".into());
+    }
     let core = machine.registers();
-    let page = Vec::from_slice(rt.alloc(), machine.memory().page(1))?;
-    let mut meter = StepMeter::new();
-    assert!(rt; is_push(&machine.step(&mut meter)));
-    assert_eq!(rt; machine.memory().read_byte(0x7ff0_0ff0), Some(0xf0));
-    assert!(rt; machine.memory().is_dirty(1) && !machine.memory().is_dirty(0));
+    let page = Vec::from_slice(alloc, machine.memory().page(1))?;
+    machine.step(&mut StepMeter::new());
+    let between = machine.memory().read_byte(0x7ff0_0ff0);
     let kept = SecondPage {
         bytes: page.as_slice(),
     };
     machine.put_back(&core, &kept);
+    Ok(between)
+}
+
+#[test]
+fn a_machine_is_put_back(rt: HostRuntime) -> Result<(), Fail> {
+    let mut machine = machine_at(rt.alloc(), 0x00212023)?; // sw sp,0(sp)
+    let core = machine.registers();
+    let between = step_and_back(rt.alloc(), &mut machine)?;
+    assert_eq!(rt; between, Some(0xf0));
     assert_eq!(rt; machine.registers(), core);
     assert_eq!(rt; machine.sum(), 0x7ff0_0ff0);
     assert_eq!(rt; machine.memory().read_byte(0x7ff0_0ff0), Some(0));
-    assert!(rt; meter.value() == 1);
-    assert!(rt; is_push(&machine.step(&mut meter)));
+    assert!(rt; !is_dirty(machine.memory(), 1));
+    let told = told_by_step(rt.alloc(), &mut machine)?;
+    assert_eq!(rt;
+        told.as_str(),
+        "65536 0 Next(Bytes { addr: 2146439152, len: 4 }) 1"
+    );
+    assert!(rt; is_dirty(machine.memory(), 1));
     machine.clear_dirty();
-    assert!(rt; !machine.memory().is_dirty(1));
+    assert!(rt; !is_dirty(machine.memory(), 1));
     Ok(())
 }
