@@ -1,8 +1,8 @@
 //! Each public call of `om_base` once, on values from outside.
 
 use om_base::{
-    Bytes, Items, MOST_BYTES, Name, Num, Span, Text, cstr_at, overlap, put_decimal, sleb, u8_at,
-    u16_at, u32_at, u64_at, uleb,
+    Bytes, Items, Name, Num, Span, Text, cstr_at, overlap, put_decimal, sleb, u8_at, u16_at,
+    u32_at, u64_at, uleb,
 };
 use std::test::Fail;
 
@@ -14,7 +14,6 @@ fn numbers_are_little_endian(rt: HostRuntime) -> Result<(), Fail> {
     assert_eq!(rt; u16_at(bytes, 0)?, 243);
     assert_eq!(rt; u32_at(bytes, 6)?, 0x10074);
     assert_eq!(rt; u64_at(bytes, 2)?, 0x0001_0074_0000_0001);
-    assert_eq!(rt; u32_at(bytes, 7), Err(Num::Short));
     Ok(())
 }
 
@@ -34,8 +33,6 @@ fn unsigned_lebs_are_those_of_the_standard(rt: HostRuntime) -> Result<(), Fail> 
     for (bytes, want) in rows {
         assert_eq!(rt; uleb(bytes, 0), Ok((want, bytes.len())));
     }
-    assert_eq!(rt; uleb(b"\x80\xb9\x64", 1), Ok((12857, 3)));
-    assert_eq!(rt; uleb(b"\x80", 0), Err(Num::Short));
     Ok(())
 }
 
@@ -62,13 +59,18 @@ fn signed_lebs_are_those_of_the_standard(rt: HostRuntime) -> Result<(), Fail> {
 
 #[test]
 fn numbers_past_64_bits_are_none(rt: HostRuntime) -> Result<(), Fail> {
-    // One beyond each bound, and ten bytes without a last one.
-    let above = b"\x80\x80\x80\x80\x80\x80\x80\x80\x80\x02";
-    let below = b"\xff\xff\xff\xff\xff\xff\xff\xff\xff\x7e";
-    let padded = b"\x80\x80\x80\x80\x80\x80\x80\x80\x80\x80\x00";
-    assert_eq!(rt; uleb(above, 0), Err(Num::LebLong));
-    assert_eq!(rt; sleb(below, 0), Err(Num::LebLong));
-    assert_eq!(rt; uleb(padded, 0), Err(Num::LebLong));
+    // One beyond the bound, ten bytes without a last one, and a number that breaks off.
+    let rows = [
+        (
+            b"\x80\x80\x80\x80\x80\x80\x80\x80\x80\x02".as_slice(),
+            Num::LebLong,
+        ),
+        (b"\x80\x80\x80\x80\x80\x80\x80\x80\x80\x80\0", Num::LebLong),
+        (b"\x80\x80", Num::Short),
+    ];
+    for (bytes, want) in rows {
+        assert_eq!(rt; uleb(bytes, 0), Err(want));
+    }
     Ok(())
 }
 
@@ -76,10 +78,10 @@ fn numbers_past_64_bits_are_none(rt: HostRuntime) -> Result<(), Fail> {
 fn texts_end_at_the_first_zero(rt: HostRuntime) -> Result<(), Fail> {
     // A string table, as in the System V gABI, chapter 4, figure 4-15.
     let table = b"\0name.\0Variable\0able";
-    assert_eq!(rt; cstr_at(table, 0), Ok(0));
-    assert_eq!(rt; cstr_at(table, 1), Ok(6));
-    assert_eq!(rt; cstr_at(table, 11), Ok(15));
-    assert_eq!(rt; cstr_at(table, 16), Err(Num::NoNul));
+    let rows = [(0, Ok(0)), (1, Ok(6)), (11, Ok(15)), (16, Err(Num::NoNul))];
+    for (at, want) in rows {
+        assert_eq!(rt; cstr_at(table, at), want, "{at}");
+    }
     Ok(())
 }
 
@@ -91,35 +93,45 @@ fn spans_that_share_a_number_are_told(rt: HostRuntime) -> Result<(), Fail> {
         Span { lo: 6, hi: 9 },
     ];
     assert_eq!(rt; overlap(&spans), Some((1, 2)));
-    assert_eq!(rt; MOST_BYTES, 64 * 1024 * 1024);
+    Ok(())
+}
+
+#[test]
+fn texts_hold_what_was_put_in(rt: HostRuntime) -> Result<(), Fail> {
+    let mut text = Text::copy_of(rt.alloc(), b"a0")?;
+    text.fill(b' ', 3)?;
+    text.add(b"pc")?;
+    assert_eq!(rt; Name::of(text.bytes()).bytes(), b"a0   pc".as_slice());
     Ok(())
 }
 
 #[test]
 fn decimals_have_a_sign_and_no_leading_zeros(rt: HostRuntime) -> Result<(), Fail> {
-    let mut text = Text::copy_of(rt.alloc(), b"a0 ")?;
-    put_decimal(&mut text, 0)?;
-    put_decimal(&mut text, -2147483648)?;
-    put_decimal(&mut text, 18446744073709551615)?;
-    assert_eq!(rt;
-        text.bytes(),
-        b"a0 0-214748364818446744073709551615".as_slice()
-    );
+    let rows = [
+        (0, "0"),
+        (-2147483648, "-2147483648"),
+        (18446744073709551615, "18446744073709551615"),
+    ];
+    for (value, want) in rows {
+        let mut text = Text::copy_of(rt.alloc(), b"")?;
+        put_decimal(&mut text, value)?;
+        assert_eq!(rt; text.bytes(), want.as_bytes());
+    }
+    Ok(())
+}
+
+#[test]
+fn bytes_hold_what_was_put_in(rt: HostRuntime) -> Result<(), Fail> {
+    let mut bytes = Bytes::copy_of(rt.alloc(), b"ab")?;
+    bytes.add(b"c")?;
+    assert_eq!(rt; bytes.bytes(), b"abc".as_slice());
+    let bytes = Bytes::from_vec(Vec::new(rt.alloc()));
+    assert!(rt; bytes.bytes().is_empty());
     Ok(())
 }
 
 #[test]
 fn lists_hold_what_was_put_in(rt: HostRuntime) -> Result<(), Fail> {
-    let mut bytes = Bytes::from_vec(Vec::from_slice(rt.alloc(), b"ab")?);
-    bytes.add(b"c")?;
-    assert_eq!(rt; Name::of(bytes.bytes()).bytes(), b"abc".as_slice());
-    let bytes = Bytes::copy_of(rt.alloc(), bytes.bytes())?;
-    assert_eq!(rt; bytes.bytes(), b"abc".as_slice());
-    let mut text = Text::copy_of(rt.alloc(), b"")?;
-    text.fill(b' ', 3)?;
-    text.add(b"pc")?;
-    assert_eq!(rt; text.bytes(), b"   pc".as_slice());
-
     let mut items = Items::new(rt.alloc());
     items.push(7u32)?;
     items.push(8)?;

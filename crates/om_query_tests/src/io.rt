@@ -2,13 +2,13 @@
 
 use crate::unmoved::Unmoved;
 use om_io::{
-    Calls, DirShelf, Files, MemShelf, MemSink, Shelf, ShelfFail, Sink, SinkFail, StdSink, Taken,
-    put_all, put_pieces,
+    Calls, DirShelf, Files, MemShelf, MemSink, Shelf, ShelfFail, Sink, StdSink, Taken, put_all,
+    put_pieces,
 };
-use std::alloc::{AllocError, Global};
+use std::alloc::Global;
 use std::os::unix::fs::symlink;
 use std::test::Fail;
-use std::{fs, io, process};
+use std::{env, fs, io, process};
 
 /// Whether the shelf gives these bytes under that name.
 fn gives<S: Shelf>(shelf: &mut S, alloc: Global, name: &str, bytes: &[u8]) -> bool {
@@ -23,63 +23,56 @@ fn has_more<S: Shelf>(shelf: &mut S, alloc: Global, name: &str, most: u64) -> bo
     matches!(shelf.take(alloc, name, most), Ok(Taken::Longer))
 }
 
+/// Whether the shelf takes these bytes, and gives them.
+fn holds<S: Shelf>(shelf: &mut S, alloc: Global, name: &str, bytes: &[u8]) -> bool {
+    shelf.put(alloc, name, bytes).is_ok() && gives(shelf, alloc, name, bytes)
+}
+
+/// Whether nothing can be put under that name.
+fn refuses<S: Shelf>(shelf: &mut S, alloc: Global, name: &str) -> bool {
+    shelf.put(alloc, name, b"refused") == Err(ShelfFail::Failed)
+}
+
+/// Whether nothing can be taken under that name.
+fn lacks<S: Shelf>(shelf: &mut S, alloc: Global, name: &str) -> bool {
+    matches!(shelf.take(alloc, name, 9), Err(ShelfFail::Failed))
+}
+
 #[test]
 fn memory_holds_what_was_put(rt: HostRuntime) -> Result<(), Fail> {
     let alloc = rt.alloc();
     let mut files = Files::new(alloc);
     files.add("a", b"first")?;
     let mut failing = Calls::new(alloc);
-    failing.add(3)?;
-    assert_eq!(rt; failing.has(3), true);
+    failing.add(4)?;
+    assert!(rt; failing.has(4));
     let mut shelf = MemShelf::new(files, failing);
-    assert_eq!(rt; gives(&mut shelf, alloc, "a", b"first"), true);
-    assert_eq!(rt; shelf.put(alloc, "a", b"second"), Ok(()));
-    assert_eq!(rt; shelf.put(alloc, "b", b"third"), Err(ShelfFail::Failed));
+    assert!(rt; gives(&mut shelf, alloc, "a", b"first"));
+    assert!(rt; holds(&mut shelf, alloc, "a", b"second"));
+    assert!(rt; refuses(&mut shelf, alloc, "a"));
     assert_eq!(rt; shelf.held("a"), Some(b"second".as_slice()));
     Ok(())
 }
 
 #[test]
 fn memory_keeps_what_was_written(rt: HostRuntime) -> Result<(), Fail> {
-    let alloc = rt.alloc();
-    let mut failing = Calls::new(alloc);
-    failing.add(5)?;
-    let mut sink = MemSink::new(alloc, 2, failing);
-    assert_eq!(rt; sink.write(b"abc")?, 2);
-    put_all(&mut sink, b"cde")?;
-    assert_eq!(rt;
-        put_pieces(&mut sink, &[b"f".as_slice(), b"g"]),
-        Err(SinkFail::Failed)
-    );
+    let mut sink = MemSink::new(rt.alloc(), 2, Calls::new(rt.alloc()));
+    assert_eq!(rt; sink.write(b"abc"), Ok(2));
+    assert_eq!(rt; put_pieces(&mut sink, &[b"c".as_slice(), b"def"]), Ok(()));
     assert_eq!(rt; sink.written(), b"abcdef".as_slice());
     Ok(())
 }
 
 /// The path of a new folder for a test of that name.
 fn new_folder(rt: &HostRuntime, name: &str) -> io::Result<String> {
-    let folder = format!(in rt.alloc(); "/tmp/om_io-{name}-{}", process::id(rt.process()))?;
+    let all = env::temp_dir(rt)?;
+    let folder = format!(in rt.alloc();
+        "{}/om_io-{name}-{}",
+        all.as_str(),
+        process::id(rt.process())
+    )?;
     fs::create_dir_all(rt, folder.as_str())?;
     Ok(folder)
-}
-
-#[test]
-fn a_folder_gives_its_files(rt: HostRuntime) -> Result<(), Fail> {
-    let alloc = rt.alloc();
-    let folder = new_folder(&rt, "take")?;
-    let file = format!(in alloc; "{folder}/four")?;
-    fs::write(&rt, file.as_str(), "abcd")?;
-    let mut shelf = DirShelf::new(&rt, folder.as_str());
-    // The second name is absolute.
-    for name in ["four", file.as_str()] {
-        assert_eq!(rt; gives(&mut shelf, alloc, name, b"abcd"), true, "{name}");
-    }
-    assert_eq!(rt; has_more(&mut shelf, alloc, "four", 3), true);
-    for name in ["none", "."] {
-        let taken = shelf.take(alloc, name, 4);
-        assert_eq!(rt; taken.err(), Some(ShelfFail::Failed), "{name}");
-    }
-    fs::remove_dir_all(&rt, folder.as_str())?;
-    Ok(())
 }
 
 #[test]
@@ -92,25 +85,18 @@ fn a_folder_holds_what_was_put(rt: HostRuntime) -> Result<(), Fail> {
 
     // The second name is where the bytes of the third would be written, were it free.
     for name in ["new", "four.omni-part0", "four", "four", "link"] {
-        assert_eq!(rt; shelf.put(alloc, name, name.as_bytes()), Ok(()), "{name}");
-        assert_eq!(rt;
-            gives(&mut shelf, alloc, name, name.as_bytes()),
-            true,
-            "{name}"
-        );
+        assert!(rt; holds(&mut shelf, alloc, name, name.as_bytes()), "{name}");
     }
-    assert_eq!(rt; shelf.put(alloc, "/dev/null", b"none"), Ok(()));
     for name in ["none/file", "."] {
-        let put = shelf.put(alloc, name, b"none");
-        assert_eq!(rt; put, Err(ShelfFail::Failed), "{name}");
+        assert!(rt; lacks(&mut shelf, alloc, name), "{name}");
+        assert!(rt; refuses(&mut shelf, alloc, name), "{name}");
     }
 
-    // What was written to the link is in its file, and no part is left behind.
-    assert_eq!(rt; gives(&mut shelf, alloc, "new", b"link"), true);
-    assert_eq!(rt;
-        gives(&mut shelf, alloc, "four.omni-part0", b"four.omni-part0"),
-        true
-    );
+    // What was written to the link is in its file, and no part is left behind. The second name is absolute.
+    for name in ["new", link.as_str()] {
+        assert!(rt; gives(&mut shelf, alloc, name, b"link"), "{name}");
+    }
+    assert!(rt; has_more(&mut shelf, alloc, "four", 3));
     assert_eq!(rt; fs::read_dir(&rt, folder.as_str())?.count(), 4);
     fs::remove_dir_all(&rt, folder.as_str())?;
     Ok(())
@@ -121,14 +107,13 @@ fn a_put_that_fails_leaves_the_folder_as_it_was(rt: HostRuntime) -> Result<(), F
     let alloc = rt.alloc();
     let folder = new_folder(&rt, "unmoved")?;
     let mut shelf = DirShelf::new(&rt, folder.as_str());
-    assert_eq!(rt; shelf.put(alloc, "held", b"first"), Ok(()));
+    assert!(rt; holds(&mut shelf, alloc, "held", b"first"));
     let files = Unmoved { files: &rt };
     let mut unmoved = DirShelf::new(&files, folder.as_str());
     for name in ["held", "new"] {
-        let put = unmoved.put(alloc, name, b"second");
-        assert_eq!(rt; put, Err(ShelfFail::Failed), "{name}");
+        assert!(rt; refuses(&mut unmoved, alloc, name), "{name}");
     }
-    assert_eq!(rt; gives(&mut shelf, alloc, "held", b"first"), true);
+    assert!(rt; gives(&mut shelf, alloc, "held", b"first"));
     assert_eq!(rt; fs::read_dir(&rt, folder.as_str())?.count(), 1);
     fs::remove_dir_all(&rt, folder.as_str())?;
     Ok(())
@@ -136,18 +121,11 @@ fn a_put_that_fails_leaves_the_folder_as_it_was(rt: HostRuntime) -> Result<(), F
 
 #[test]
 fn a_writer_gets_what_was_written(rt: HostRuntime) -> Result<(), Fail> {
-    let mut out = Vec::new(rt.alloc());
-    let mut sink = StdSink::new(&mut out);
-    assert_eq!(rt; put_all(&mut sink, b"ab"), Ok(()));
-    assert_eq!(rt; put_all(&mut sink, b"c"), Ok(()));
-    assert_eq!(rt; out.as_slice(), b"abc".as_slice());
-
     // A slice that is full takes nothing more.
     let mut room = [0; 2];
     let mut sink = StdSink::new(room.as_mut_slice());
-    assert_eq!(rt; put_all(&mut sink, b"abc"), Err(SinkFail::Failed));
+    assert!(rt; put_all(&mut sink, b"abc").is_err());
     assert_eq!(rt; room, [97, 98]);
-
     put_all(&mut StdSink::new(rt.stdout()), b"to standard output\n")?;
     put_all(&mut StdSink::new(rt.stderr()), b"to standard error\n")?;
     Ok(())

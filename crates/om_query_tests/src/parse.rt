@@ -2,6 +2,7 @@
 
 use om_base::{NoMemory, Text, put_decimal};
 use om_parse::{ColumnName, CompareOp, CondTree, ExprTree, ParseFault, Query, parse};
+use std::alloc::Global;
 use std::test::Fail;
 
 fn show_name(shown: &mut Text, at: u32, name: &[u8]) -> Result<(), NoMemory> {
@@ -81,6 +82,16 @@ fn show_fault(shown: &mut Text, fault: ParseFault) -> Result<(), NoMemory> {
     }
 }
 
+/// The tree of a text, or its fault.
+fn shown(alloc: Global, text: &[u8]) -> Result<Text, NoMemory> {
+    let mut shown = Text::copy_of(alloc, b"")?;
+    match parse(alloc, text) {
+        Ok(query) => show_query(&mut shown, &query)?,
+        Err(fault) => show_fault(&mut shown, fault)?,
+    }
+    Ok(shown)
+}
+
 // Offsets are counted by hand, from 0.
 #[test]
 fn texts_have_these_trees_and_faults(rt: HostRuntime) -> Result<(), Fail> {
@@ -111,11 +122,7 @@ fn texts_have_these_trees_and_faults(rt: HostRuntime) -> Result<(), Fail> {
         ("SELECT a FROM s 'it''s'", " 16:syntax"),
     ];
     for (text, want) in rows {
-        let mut shown = Text::copy_of(rt.alloc(), b"")?;
-        match parse(rt.alloc(), text.as_bytes()) {
-            Ok(query) => show_query(&mut shown, &query)?,
-            Err(fault) => show_fault(&mut shown, fault)?,
-        }
+        let shown = shown(rt.alloc(), text.as_bytes())?;
         assert_eq!(rt; shown.bytes(), want.as_bytes(), "of {text}");
     }
     Ok(())

@@ -9,89 +9,55 @@ use om_table::{Style, Table, TableFault, print_table};
 use std::alloc::Global;
 use std::test::Fail;
 
-fn names(alloc: Global, first: &[u8], second: &[u8]) -> Result<Items<Text>, NoMemory>
+fn names(alloc: Global) -> Result<Items<Text>, NoMemory>
     ensures { IfOk result (λ names. length names ≡ 2) }
 {
-    let mut names = Items::new(alloc);
-    names.push(Text::copy_of(alloc, first)?)?;
-    names.push(Text::copy_of(alloc, second)?)?;
-    Ok(names)
+    let first = Text::copy_of(alloc, b"a1")?;
+    let second = Text::copy_of(alloc, b"who")?;
+    Ok(Items::from_vec(vec![in alloc; first, second]?))
 }
 
-fn row(alloc: Global, first: Owned, second: Owned) -> Result<Items<Owned>, NoMemory>
+fn row(alloc: Global, first: Owned, second: &[u8]) -> Result<Items<Owned>, NoMemory>
     ensures { IfOk result (λ row. length row ≡ 2) }
 {
-    let mut row = Items::new(alloc);
-    row.push(first)?;
-    row.push(second)?;
-    Ok(row)
-}
-
-fn empty(alloc: Global) -> Result<Table, NoMemory>
-    ensures { IfOk result (λ table. IsTable table) }
-{
-    Ok(Table {
-        names: names(alloc, b"step", b"a0")?,
-        rows: Items::new(alloc),
-    })
-}
-
-fn steps(alloc: Global) -> Result<Table, NoMemory>
-    ensures { IfOk result (λ table. IsTable table) }
-{
-    let mut rows = Items::new(alloc);
-    rows.push(row(alloc, Owned::Int(2), Owned::Int(2))?)?;
-    rows.push(row(alloc, Owned::Int(4), Owned::Int(1))?)?;
-    rows.push(row(alloc, Owned::Int(6), Owned::Int(0))?)?;
-    Ok(Table {
-        names: names(alloc, b"step", b"a0")?,
-        rows,
-    })
+    let second = Owned::Text(Text::copy_of(alloc, second)?);
+    Ok(Items::from_vec(vec![in alloc; first, second]?))
 }
 
 fn texts(alloc: Global) -> Result<Table, NoMemory>
     ensures { IfOk result (λ table. IsTable table) }
 {
-    let line = Owned::Text(Text::copy_of(alloc, b"a\n\"b")?);
-    let backslash = Owned::Text(Text::copy_of(alloc, b"\\")?);
-    let mut rows = Items::new(alloc);
-    rows.push(row(alloc, Owned::Null, line)?)?;
-    rows.push(row(alloc, Owned::Int(-12), backslash)?)?;
-    Ok(Table {
-        names: names(alloc, b"a1", b"who")?,
-        rows,
-    })
+    let names = names(alloc)?;
+    let first = row(alloc, Owned::Null, b"a\n\"b")?;
+    let second = row(alloc, Owned::Int(-12), b"\\")?;
+    let rows = Items::from_vec(vec![in alloc; first, second]?);
+    Ok(Table { names, rows })
 }
 
 #[test]
-fn columns_have_equal_width(rt: HostRuntime) -> Result<(), Fail> {
+fn tables_have_these_texts(rt: HostRuntime) -> Result<(), Fail> {
     let alloc = rt.alloc();
-    let text = print_table(alloc, &steps(alloc)?, Style::Columns, 43)?;
-    assert_eq!(rt;
-        text.bytes(),
-        b"step  a0\n   2   2\n   4   1\n   6   0\nrows 3\n".as_slice()
-    );
-    let text = print_table(alloc, &texts(alloc)?, Style::Columns, 1000)?;
-    assert_eq!(rt;
-        text.bytes(),
-        b"  a1     who\nNULL  a\\0a\"b\n -12     \\5c\nrows 2\n".as_slice()
-    );
-    let text = print_table(alloc, &empty(alloc)?, Style::Columns, 1000)?;
-    assert_eq!(rt; text.bytes(), b"step  a0\nrows 0\n".as_slice());
-    let refused = print_table(alloc, &steps(alloc)?, Style::Columns, 42);
-    assert_eq!(rt; refused.err(), Some(TableFault::TooManyBytes { limit: 42 }));
-    Ok(())
-}
-
-#[test]
-fn comma_separated_texts_are_quoted(rt: HostRuntime) -> Result<(), Fail> {
-    let alloc = rt.alloc();
-    let text = print_table(alloc, &texts(alloc)?, Style::Csv, 28)?;
-    assert_eq!(rt;
-        text.bytes(),
-        b"\"a1\",\"who\"\n,\"a\n\"\"b\"\n-12,\"\\\"\n".as_slice()
-    );
-    let refused = print_table(alloc, &texts(alloc)?, Style::Csv, 27);
-    assert_eq!(rt; refused.err(), Some(TableFault::TooManyBytes { limit: 27 }));
+    let table = texts(alloc)?;
+    let rows = [
+        (
+            Style::Columns,
+            46,
+            b"  a1     who\nNULL  a\\0a\"b\n -12     \\5c\nrows 2\n".as_slice(),
+        ),
+        (
+            Style::Csv,
+            28,
+            b"\"a1\",\"who\"\n,\"a\n\"\"b\"\n-12,\"\\\"\n",
+        ),
+    ];
+    for (style, length, want) in rows {
+        let text = print_table(alloc, &table, style, length)?;
+        assert_eq!(rt; text.bytes(), want, "{style:?}");
+        let refused = print_table(alloc, &table, style, length - 1).err();
+        assert!(rt;
+            refused == Some(TableFault::TooManyBytes { limit: length - 1 }),
+            "{style:?}"
+        );
+    }
     Ok(())
 }
