@@ -27,6 +27,7 @@ fn unsigned_lebs_are_those_of_the_standard(rt: HostRuntime) -> Result<(), Fail> 
         (b"\x81\x01", 129),
         (b"\x82\x01", 130),
         (b"\xb9\x64", 12857),
+        (b"\xe5\x8e\x26", 624_485),
         (b"\x80\x00", 0),
         (b"\xff\xff\xff\xff\xff\xff\xff\xff\xff\x01", u64::MAX),
     ];
@@ -48,6 +49,7 @@ fn signed_lebs_are_those_of_the_standard(rt: HostRuntime) -> Result<(), Fail> {
         (b"\x80\x7f", -128),
         (b"\x81\x01", 129),
         (b"\xff\x7e", -129),
+        (b"\x6c", -20),
         (b"\x80\x80\x80\x80\x80\x80\x80\x80\x80\x7f", i64::MIN),
         (b"\xff\xff\xff\xff\xff\xff\xff\xff\xff\x00", i64::MAX),
     ];
@@ -66,7 +68,7 @@ fn numbers_past_64_bits_are_none(rt: HostRuntime) -> Result<(), Fail> {
             Num::LebLong,
         ),
         (b"\x80\x80\x80\x80\x80\x80\x80\x80\x80\x80\0", Num::LebLong),
-        (b"\x80\x80", Num::Short),
+        (b"\x80", Num::Short),
     ];
     for (bytes, want) in rows {
         assert_eq!(rt; uleb(bytes, 0), Err(want));
