@@ -1,4 +1,5 @@
 pub mod Counts
+pub mod DirShelf
 pub mod Files
 pub mod MemShelf
 pub mod MemSink

@@ -1,6 +1,9 @@
 //! A real output.
 
-ghost use Rattle.std.specs.Prelude.{◌≡◌, ◌<◌, ◌≤◌, None, IfOk, length};
+ghost use Rattle.std.specs.Prelude.{◌≡◌, ◌<◌, ◌≤◌, [], None, Ok, IfOk, OnOk, OnErr, length, take};
+ghost use Rattle.std.specs.Io.KnownBytes.{Appends};
+ghost use Rattle.om_io.specs.Counts.{one_more};
+ghost use Rattle.om_io.specs.Sink.{AppendsPrefix, IsCountOf, SinkFailsByCount};
 
 use crate::{Sink, SinkFail};
 use std::io;
@@ -28,7 +31,9 @@ impl<W: Write> StdSink<W> {
 
 /// How many of the first of these bytes, which are not none, were written and flushed.
 fn write_through<W: Write>(out: &mut W, bytes: &[u8]) -> io::Result<usize>
-    ensures { IfOk result (λ count. (0 < count) × (count ≤ length bytes.now)) }
+    ensures count { IfOk result (λ count. (0 < count) × (count ≤ length bytes.now)) }
+    ensures taken { IfOk result (λ count. Appends (W.contents out.old) (W.contents out.new) (take count bytes.now)) }
+    ensures refused { OnErr result (AppendsPrefix (W.contents out.old) (W.contents out.new) bytes.now) }
 {
     let count = out.write(bytes)?;
     if count == 0 {
@@ -46,7 +51,20 @@ impl<W: Write> Sink for StdSink<W> {
     ghost refused_growths = { λ _. 0 };
 
     /// A flush that fails is an error too. Memory is never wanting.
-    fn write(&mut self, bytes: &[u8]) -> Result<usize, SinkFail> {
+    fn write(&mut self, bytes: &[u8]) -> Result<usize, SinkFail>
+        ensures count { IfOk result (IsCountOf bytes.now) }
+        ensures empty { bytes.now ≡ [] → (result ≡ Ok 0) × (self.new ≡ self.old) }
+        ensures cause { SinkFailsByCount self.old.faults self.new.faults 0 0 result }
+
+        // Each failure is counted once.
+        ensures fault { OnErr result (self.new.faults ≡ one_more self.old.faults) }
+        ensures none { OnOk result (self.new.faults ≡ self.old.faults) }
+
+        // The writer took what is told as written, and at a failure the first bytes at most.
+        ensures taken { IfOk result (λ count.
+            Appends (W.contents self.old.out) (W.contents self.new.out) (take count bytes.now)) }
+        ensures refused { OnErr result (AppendsPrefix (W.contents self.old.out) (W.contents self.new.out) bytes.now) }
+    {
         if bytes.is_empty() {
             return Ok(0);
         }

@@ -6,9 +6,10 @@ use om_io::{
     put_pieces,
 };
 use std::alloc::Global;
+use std::io::BufWriter;
 use std::os::unix::fs::symlink;
 use std::test::Fail;
-use std::{env, fs, io, process};
+use std::{env, fs, io, mem, process};
 
 /// Whether the shelf gives these bytes under that name.
 fn gives<S: Shelf>(shelf: &mut S, alloc: Global, name: &str, bytes: &[u8]) -> bool {
@@ -121,6 +122,13 @@ fn a_put_that_fails_leaves_the_folder_as_it_was(rt: HostRuntime) -> Result<(), F
 
 #[test]
 fn a_writer_gets_what_was_written(rt: HostRuntime) -> Result<(), Fail> {
+    // What waits in a buffer is handed on at once.
+    let mut late = Vec::new(rt.alloc());
+    let mut sink = StdSink::new(BufWriter::new(rt.alloc(), &mut late)?);
+    put_all(&mut sink, b"d")?;
+    mem::forget(sink);
+    assert_eq!(rt; late.as_slice(), b"d".as_slice());
+
     // A slice that is full takes nothing more.
     let mut room = [0; 2];
     let mut sink = StdSink::new(room.as_mut_slice());
