@@ -11,7 +11,7 @@ use Rattle.om_parse.specs.Grammar.{Tokens, all_of}
 use Rattle.om_parse.specs.declared.tree.Item.{Item}
 use Rattle.om_parse.specs.declared.tree.ExprTree.TheVariants as e
 use Rattle.om_parse.specs.declared.tree.CondTree.TheVariants as c
-use Rattle.om_parse.specs.Reading.{column, column_named, operator, operator_at, operator_in, numeral, numeral_of, item, test, joined, Step, Parser, go_on, and_then, ◌>>=◌, pure, one, chosen, is, begins, passed, at_most, tails, Reads}
+use Rattle.om_parse.specs.Reading.{column, column_named, operator, operator_at, operator_in, numeral, numeral_of, item, one_test, joined, Step, Parser, go_on, and_then, ◌>>=◌, pure, one, chosen, is, begins, passed, at_most, tails, Reads}
 
 -- ---- steps
 
@@ -136,8 +136,8 @@ pub item_shrinks : Shrinks item
 unfolding item
 item_shrinks tokens = bind_shrinks column (λ name. pure (record { expr = e.Column name })) column_shrinks (λ name. pure_shrinks {A = Item} (record { expr = e.Column name })) tokens
 
-pub test_shrinks : Shrinks test
-unfolding test
+pub test_shrinks : Shrinks one_test
+unfolding one_test
 test_shrinks tokens =
     bind_shrinks column (λ left. operator >>= λ sign. numeral >>= λ right. pure (c.Compare sign.0 sign.1 (e.Column left) (e.Numeral right))) column_shrinks
     (λ left. bind_shrinks operator (λ sign. numeral >>= λ right. pure (c.Compare sign.0 sign.1 (e.Column left) (e.Numeral right))) operator_shrinks
@@ -163,20 +163,20 @@ not_eaten separator tokens after e h = h ∙ ap (λ b. cond b (passed tokens) to
 
 -- ---- a condition, by its first two tokens
 
-pub cond_alone : (tokens : Tokens) (first : CondTree) (rest : Tokens) → test tokens ≡ (Ok first, rest) → begins t.And rest ≡ false → reading.cond tokens ≡ (Ok first, rest)
+pub cond_alone : (tokens : Tokens) (first : CondTree) (rest : Tokens) → one_test tokens ≡ (Ok first, rest) → begins t.And rest ≡ false → reading.cond tokens ≡ (Ok first, rest)
 unfolding reading.cond
 cond_alone tokens first rest h e =
-    ap (λ (s : Step CondTree). and_then s (λ x. tails t.And test >>= λ others. pure (all_of x others))) h
-    ∙ ap (λ (s : Step (List CondTree)). and_then s (λ others. pure (all_of first others))) (tails_done t.And test test_shrinks rest e)
+    ap (λ (s : Step CondTree). and_then s (λ x. tails t.And one_test >>= λ others. pure (all_of x others))) h
+    ∙ ap (λ (s : Step (List CondTree)). and_then s (λ others. pure (all_of first others))) (tails_done t.And one_test test_shrinks rest e)
 
-pub cond_joined : (tokens : Tokens) (first : CondTree) (rest : Tokens) → test tokens ≡ (Ok first, rest) → begins t.And rest ≡ true → reading.cond tokens ≡ joined first (passed rest)
+pub cond_joined : (tokens : Tokens) (first : CondTree) (rest : Tokens) → one_test tokens ≡ (Ok first, rest) → begins t.And rest ≡ true → reading.cond tokens ≡ joined first (passed rest)
 unfolding reading.cond joined
 cond_joined tokens first rest h e =
-    let second = test (passed rest) in
-    let each : CondTree → Parser (List CondTree) = λ x. tails t.And test >>= λ xs. pure (x ∷ xs) in
+    let second = one_test (passed rest) in
+    let each : CondTree → Parser (List CondTree) = λ x. tails t.And one_test >>= λ xs. pure (x ∷ xs) in
     let made : List CondTree → Parser CondTree = λ others. pure (all_of first others) in
-    ap (λ (s : Step CondTree). and_then s (λ x. tails t.And test >>= λ others. pure (all_of x others))) h
-    ∙ ap (λ (s : Step (List CondTree)). and_then s made) (tails_more t.And test test_shrinks rest e)
+    ap (λ (s : Step CondTree). and_then s (λ x. tails t.And one_test >>= λ others. pure (all_of x others))) h
+    ∙ ap (λ (s : Step (List CondTree)). and_then s made) (tails_more t.And one_test test_shrinks rest e)
     ∙ and_then_assoc second.0 second.1 each made
-    ∙ and_then_same second.0 second.1 (λ x tokens. and_then (each x tokens) made) (λ x. tails t.And test >>= λ others. pure (c.All (first ∷ x ∷ others)))
-    (λ x. and_then_assoc (tails t.And test second.1).0 (tails t.And test second.1).1 (λ xs. pure (x ∷ xs)) made)
+    ∙ and_then_same second.0 second.1 (λ x tokens. and_then (each x tokens) made) (λ x. tails t.And one_test >>= λ others. pure (c.All (first ∷ x ∷ others)))
+    (λ x. and_then_assoc (tails t.And one_test second.1).0 (tails t.And one_test second.1).1 (λ xs. pure (x ∷ xs)) made)

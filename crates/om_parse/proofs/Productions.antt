@@ -194,8 +194,8 @@ join_sign left u v x y (sign {at = at} f) (after_sign g) = after_column at f g
 zero_numeral : Numeral
 zero_numeral = record { at = 0; value = 0 }
 
-pub test_runs : Runs r.test IsTest
-unfolding r.test zero_numeral
+pub test_runs : Runs r.one_test IsTest
+unfolding r.one_test zero_numeral
 test_runs =
     bind_run r.column (λ left. r.operator >>= λ x. r.numeral >>= λ right. pure (c.Compare x.0 x.1 (e.Column left) (e.Numeral right))) IsColumn AfterColumn IsTest join_column
     (λ left. (terminal 0 t.Equal ∷ token 0 (k.Numeral 0) ∷ [], c.Compare 0 o.Equal (e.Column left) (e.Numeral zero_numeral), after_column 0 IsOperator.equal IsNumeral.numeral)) column_runs
@@ -203,8 +203,8 @@ test_runs =
     (λ x. (token 0 (k.Numeral 0) ∷ [], c.Compare x.0 x.1 (e.Column left) (e.Numeral zero_numeral), after_sign IsNumeral.numeral)) operator_runs
     (λ x. map_run r.numeral (λ right. c.Compare x.0 x.1 (e.Column left) (e.Numeral right)) IsNumeral (AfterSign left x) (λ u right f. after_sign f) numeral_runs))
 
-pub more_tests_runs : Runs (tails t.And r.test) AreMoreTests
-more_tests_runs = tails_runs t.And r.test test_shrinks IsTest AreMoreTests test_runs AreMoreTests.none (λ at u v x xs h g. AreMoreTests.more at h g)
+pub more_tests_runs : Runs (tails t.And r.one_test) AreMoreTests
+more_tests_runs = tails_runs t.And r.one_test test_shrinks IsTest AreMoreTests test_runs AreMoreTests.none (λ at u v x xs h g. AreMoreTests.more at h g)
 
 data TestsBehind (test : CondTree) : Tokens → CondTree → Type 0 where
   tests_behind : {v : Tokens} {tests : List CondTree} → AreMoreTests v tests → TestsBehind test v (all_of test tests)
@@ -215,9 +215,9 @@ join_tests u v x y h (tests_behind f) = IsCond.all h f
 pub cond_runs : Runs r.cond IsCond
 unfolding r.cond
 cond_runs =
-    bind_run r.test (λ first. tails t.And r.test >>= λ others. pure (all_of first others)) IsTest TestsBehind IsCond join_tests
+    bind_run r.one_test (λ first. tails t.And r.one_test >>= λ others. pure (all_of first others)) IsTest TestsBehind IsCond join_tests
     (λ x. ([], x, tests_behind AreMoreTests.none)) test_runs
-    (λ first. map_run (tails t.And r.test) (λ others. all_of first others) AreMoreTests (TestsBehind first) (λ u xs f. tests_behind f) more_tests_runs)
+    (λ first. map_run (tails t.And r.one_test) (λ others. all_of first others) AreMoreTests (TestsBehind first) (λ u xs f. tests_behind f) more_tests_runs)
 
 data Filtered : Tokens → Option CondTree → Type 0 where
   filtered : {u : Tokens} {cond : CondTree} → IsCond u cond → Filtered u (Some cond)

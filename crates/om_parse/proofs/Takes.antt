@@ -79,8 +79,8 @@ items_take (AreItems.list {u = u} {v = v} {item = x} {items = xs} h g) rest e =
 
 -- ---- conditions
 
-test_takes : {w : Tokens} {x : CondTree} → IsTest w x → (rest : Tokens) → r.test (w ++ rest) ≡ (Ok x, rest)
-unfolding r.test
+test_takes : {w : Tokens} {x : CondTree} → IsTest w x → (rest : Tokens) → r.one_test (w ++ rest) ≡ (Ok x, rest)
+unfolding r.one_test
 test_takes (IsTest.comparison {u = u} {v = v} {left = left} {sign = which} {op = op} {right = right} at h f g) rest =
     let made : ColumnName → ℕ × CompareOp → Numeral → CondTree = λ left x right. c.Compare x.0 x.1 (e.Column left) (e.Numeral right) in
     ap (λ (l : Tokens). and_then (r.column l) (λ left. r.operator >>= λ x. r.numeral >>= λ right. pure (made left x right))) (append_assoc u (terminal at which ∷ v) rest)
@@ -88,16 +88,16 @@ test_takes (IsTest.comparison {u = u} {v = v} {left = left} {sign = which} {op =
     ∙ ap (λ (s : Step (ℕ × CompareOp)). and_then s (λ x. r.numeral >>= λ right. pure (made left x right))) (operator_takes f at (v ++ rest))
     ∙ ap (λ (s : Step Numeral). and_then s (λ right. pure (made left (at, op) right))) (numeral_takes g rest)
 
-more_tests_take : {w : Tokens} {xs : List CondTree} → AreMoreTests w xs → (rest : Tokens) → begins t.And rest ≡ false → tails t.And r.test (w ++ rest) ≡ (Ok xs, rest)
-more_tests_take AreMoreTests.none rest e = tails_done t.And r.test test_shrinks rest e
+more_tests_take : {w : Tokens} {xs : List CondTree} → AreMoreTests w xs → (rest : Tokens) → begins t.And rest ≡ false → tails t.And r.one_test (w ++ rest) ≡ (Ok xs, rest)
+more_tests_take AreMoreTests.none rest e = tails_done t.And r.one_test test_shrinks rest e
 more_tests_take (AreMoreTests.more {u = u} {v = v} {test = x} {tests = xs} at h g) rest e =
-    tails_take t.And r.test test_shrinks at u v rest x xs (test_takes h (v ++ rest)) (more_tests_take g rest e)
+    tails_take t.And r.one_test test_shrinks at u v rest x xs (test_takes h (v ++ rest)) (more_tests_take g rest e)
 
 cond_takes : {w : Tokens} {x : CondTree} → IsCond w x → (rest : Tokens) → begins t.And rest ≡ false → r.cond (w ++ rest) ≡ (Ok x, rest)
 unfolding r.cond
 cond_takes (IsCond.all {u = u} {v = v} {test = x} {tests = xs} h g) rest e =
-    let others : CondTree → Parser CondTree = λ first. tails t.And r.test >>= λ others. pure (all_of first others) in
-    ap (λ (l : Tokens). and_then (r.test l) others) (append_assoc u v rest)
+    let others : CondTree → Parser CondTree = λ first. tails t.And r.one_test >>= λ others. pure (all_of first others) in
+    ap (λ (l : Tokens). and_then (r.one_test l) others) (append_assoc u v rest)
     ∙ ap (λ (s : Step CondTree). and_then s others) (test_takes h (v ++ rest))
     ∙ ap (λ (s : Step (List CondTree)). and_then s (λ others. pure (all_of x others))) (more_tests_take g rest e)
 

@@ -152,8 +152,8 @@ items = do
   others ← tails t.Comma item
   pure (first ∷ others)
 
-unfoldable pub test : Parser CondTree
-test = do
+unfoldable pub one_test : Parser CondTree
+one_test = do
   left ← column
   sign ← operator
   right ← numeral
@@ -162,14 +162,14 @@ test = do
 -- tests joined by AND, behind the first and its AND
 unfoldable pub joined : CondTree → Parser CondTree
 joined first = do
-  second ← test
-  others ← tails t.And test
+  second ← one_test
+  others ← tails t.And one_test
   pure (c.All (first ∷ second ∷ others))
 
 unfoldable pub cond : Parser CondTree
 cond = do
-  first ← test
-  others ← tails t.And test
+  first ← one_test
+  others ← tails t.And one_test
   pure (all_of first others)
 
 unfoldable pub filter : Parser (Option CondTree)

@@ -33,9 +33,9 @@ fn items<'a>(alloc: Global, tokens: &mut Cursor<'_, 'a>) -> Result<Items<Item<'a
 }
 
 /// `column op numeral`.
-#[tactic(auto, unfolding(crate::specs::Reading::test))]
+#[tactic(auto, unfolding(crate::specs::Reading::one_test))]
 fn test<'a>(tokens: &mut Cursor<'_, 'a>) -> Result<CondTree<'a>, Stop>
-    ensures { Reads (spec.test tokens.old) result tokens.new }
+    ensures { Reads (spec.one_test tokens.old) result tokens.new }
 {
     let left = tokens.column()?;
     let (at, op) = tokens.operator()?;
