@@ -4,3 +4,4 @@ pub mod BlockLemmas
 pub mod DisjointLemmas
 pub mod SegmentLemmas
 pub mod ExecutableLemmas
+pub mod FoundLemmas

@@ -1,5 +1,6 @@
 pub mod Image
 pub mod Piece
+pub mod Found
 pub mod Headers
 pub mod Segments
 pub mod Sections
