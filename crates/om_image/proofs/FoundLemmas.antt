@@ -1,20 +1,20 @@
--- That everything in a file stands where its headers tell.
-use Rattle.std.proofs.Common.{◌≡◌, ℕ, ◌+◌, ◌*◌, Bool, true, List, [], ◌∷◌, ◌++◌, length, take, drop, replicate, nat_le, Some, None, if◌then◌else◌, refl, sym, ap, ◌∙◌, append_assoc, arith}
+-- Where the parts of a file stand.
+use Rattle.std.proofs.Common.{◌≡◌, ℕ, ◌+◌, ◌*◌, Bool, true, List, [], ◌∷◌, ◌++◌, length, take, drop, nat_le, Some, None, if◌then◌else◌, refl, sym, ap, ◌∙◌, append_assoc, arith}
 use Rattle.std.proofs.Math.Seq.{take-append_seam}
 use Rattle.std.proofs.lemmas.Bool.{le-leb}
 use Rattle.std.proofs.lemmas.List.{append-nil, drop_at, length-append}
 use Rattle.std.specs.Prelude.{codes}
 use Rattle.std.specs.List.{AllByRecursion, flat_map}
 use Rattle.om_base.specs.Numbers.{bytes_at}
-use Rattle.om_image.specs.ElfFile.{SegmentView, SectionView, all_sections, elf_file, elf_header, half, headers_at, name_bytes, names_section, placed, placed_sections, program_header, section_bytes, section_header, section_table, sections_at, segment_bytes, segments_at, told_of, word}
-use Rattle.om_image.specs.Found.{AreNames, AreSections, AreSegments, AreTables, StandAt, told}
+use Rattle.om_image.specs.ElfFile.{SegmentView, SectionView, all_sections, elf_file, elf_header, half, headers_at, name_bytes, names_section, placed, program_header, section_bytes, section_header, section_table, sections_at, segment_bytes, segments_at, told_of, word}
+use Rattle.om_image.specs.Found.{StandAt}
 use Rattle.om_image.specs.declared.elf_file.SectionTable.{SectionTable}
 use Rattle.om_image.proofs.GrowingLemmas.{flat_map_push}
 
 -- ---- pieces
 
 -- bytes that stand behind others stand at the length of those
-stands : (front bytes back : List ℕ) (at : ℕ) → length front ≡ at → StandAt (front ++ (bytes ++ back)) at bytes
+pub stands : (front bytes back : List ℕ) (at : ℕ) → length front ≡ at → StandAt (front ++ (bytes ++ back)) at bytes
 stands front bytes back at is =
     let file = front ++ (bytes ++ back) in
     let whole : nat_le (at + length bytes) (length file) ≡ true =
@@ -36,15 +36,15 @@ all_stand f file front (x ∷ xs) back at is whole =
 
 -- ---- sizes
 
-header_size : (entry programs : ℕ) (table : SectionTable) → length (elf_header entry programs table) ≡ 52
+pub header_size : (entry programs : ℕ) (table : SectionTable) → length (elf_header entry programs table) ≡ 52
 unfolding elf_header half word
 header_size entry programs table = refl
 
-program_size : (p : ℕ × SegmentView) → length (program_header p) ≡ 32
+pub program_size : (p : ℕ × SegmentView) → length (program_header p) ≡ 32
 unfolding program_header word
 program_size p = refl
 
-section_size : (p : ℕ × (ℕ × SectionView)) → length (section_header p) ≡ 40
+pub section_size : (p : ℕ × (ℕ × SectionView)) → length (section_header p) ≡ 40
 unfolding section_header word
 section_size p = refl
 
@@ -59,116 +59,68 @@ programs_size at (segment ∷ segments) =
       programs_size (at + length (segment_bytes segment)) segments,
     )
 
-headers_size : (name_at at : ℕ) (sections : List SectionView)
-    → length (flat_map section_header (placed_sections name_at at sections)) ≡ 40 * length sections
-headers_size name_at at [] = refl
-headers_size name_at at (section ∷ sections) =
-    let rest = flat_map section_header (placed_sections (name_at + length (name_bytes section)) (at + length section.bytes) sections) in
-    omega (
-      arith,
-      length-append (section_header (name_at, (at, section))) rest,
-      section_size (name_at, (at, section)),
-      headers_size (name_at + length (name_bytes section)) (at + length section.bytes) sections,
-    )
-
-table_size : (at table_at : ℕ) (sections : List SectionView) → length (section_table at sections) ≡ 40 * (told_of table_at sections).count
-table_size at table_at [] = refl
-table_size at table_at (section ∷ sections) = omega (
-  arith,
-  length-append (replicate 40 0) (flat_map section_header (placed_sections 1 at (section ∷ sections))),
-  headers_size 1 at (section ∷ sections),
-)
-
 -- ---- a file
 
 module _ (entry : ℕ) (segments : List SegmentView) (sections : List SectionView) where
-  abbrev file : List ℕ
+  -- what the ELF header tells of the section headers
+  abbrev pub told : SectionTable
+  told = told_of (headers_at segments (all_sections sections)) (all_sections sections)
+
+  abbrev pub file : List ℕ
   file = elf_file entry segments sections
 
-  abbrev header : List ℕ
-  header = elf_header entry (length segments) (told segments sections)
+  abbrev pub header : List ℕ
+  header = elf_header entry (length segments) told
 
-  abbrev programs : List ℕ
+  abbrev pub programs : List ℕ
   programs = flat_map program_header (placed segment_bytes (segments_at segments) segments)
 
-  abbrev loaded : List ℕ
+  abbrev pub loaded : List ℕ
   loaded = flat_map segment_bytes segments
 
-  abbrev kept : List ℕ
+  abbrev pub kept : List ℕ
   kept = flat_map section_bytes (all_sections sections)
 
-  abbrev table : List ℕ
+  abbrev pub table : List ℕ
   table = section_table (sections_at segments) (all_sections sections)
 
-  made : file ≡ (((header ++ programs) ++ loaded) ++ kept) ++ table
+  pub made : file ≡ (((header ++ programs) ++ loaded) ++ kept) ++ table
   unfolding elf_file
   made = refl
 
-  before_loaded : length (header ++ programs) ≡ segments_at segments
+  pub before_loaded : length (header ++ programs) ≡ segments_at segments
   before_loaded = omega (
     arith,
     length-append header programs,
-    header_size entry (length segments) (told segments sections),
+    header_size entry (length segments) told,
     programs_size (segments_at segments) segments,
   )
 
-  before_kept : length ((header ++ programs) ++ loaded) ≡ sections_at segments
+  pub before_kept : length ((header ++ programs) ++ loaded) ≡ sections_at segments
   before_kept = length-append (header ++ programs) loaded ∙ ap (λ (n : ℕ). n + length loaded) before_loaded
 
-  before_table : length (((header ++ programs) ++ loaded) ++ kept) ≡ headers_at segments (all_sections sections)
+  pub before_table : length (((header ++ programs) ++ loaded) ++ kept) ≡ headers_at segments (all_sections sections)
   before_table = length-append ((header ++ programs) ++ loaded) kept ∙ ap (λ (n : ℕ). n + length kept) before_kept
 
-  from_kept : file ≡ ((header ++ programs) ++ loaded) ++ (kept ++ table)
+  pub from_kept : file ≡ ((header ++ programs) ++ loaded) ++ (kept ++ table)
   from_kept = made ∙ append_assoc ((header ++ programs) ++ loaded) kept table
 
-  from_loaded : file ≡ (header ++ programs) ++ (loaded ++ (kept ++ table))
+  pub from_loaded : file ≡ (header ++ programs) ++ (loaded ++ (kept ++ table))
   from_loaded = from_kept ∙ append_assoc (header ++ programs) loaded (kept ++ table)
 
-  from_programs : file ≡ header ++ (programs ++ (loaded ++ (kept ++ table)))
+  pub from_programs : file ≡ header ++ (programs ++ (loaded ++ (kept ++ table)))
   from_programs = from_loaded ∙ append_assoc header programs (loaded ++ (kept ++ table))
 
-  -- bytes that stand in what the file is stand in it
-  abbrev in_file : {whole : List ℕ} (at : ℕ) (bytes : List ℕ) → file ≡ whole → StandAt whole at bytes → StandAt file at bytes
-  in_file at bytes is there = ap (λ (xs : List ℕ). bytes_at (length bytes) xs at) is ∙ there
-
-  pub segments_stand : AreSegments entry segments sections
+  pub segments_stand : AllByRecursion (λ p. StandAt file p.0 (segment_bytes p.1)) (placed segment_bytes (segments_at segments) segments)
   segments_stand = all_stand segment_bytes file (header ++ programs) segments (kept ++ table) (segments_at segments) before_loaded from_loaded
 
-  pub sections_stand : AreSections entry segments sections
+  pub sections_stand : AllByRecursion (λ p. StandAt file p.0 (section_bytes p.1)) (placed section_bytes (sections_at segments) (all_sections sections))
   sections_stand = all_stand section_bytes file ((header ++ programs) ++ loaded) (all_sections sections) table (sections_at segments) before_kept from_kept
-
-  header_stands : StandAt file 0 header
-  header_stands = in_file 0 header from_programs (stands [] header (programs ++ (loaded ++ (kept ++ table))) 0 refl)
-
-  programs_stand : StandAt file 52 programs
-  programs_stand = in_file 52 programs from_programs
-      (stands header programs (loaded ++ (kept ++ table)) 52 (header_size entry (length segments) (told segments sections)))
-
-  -- the section headers, where there are any
-  last_stands : StandAt file (headers_at segments (all_sections sections)) table
-  last_stands =
-      let before = ((header ++ programs) ++ loaded) ++ kept in
-      in_file (headers_at segments (all_sections sections)) table (made ∙ ap (λ (xs : List ℕ). before ++ xs) (sym (append-nil table)))
-      (stands before table [] (headers_at segments (all_sections sections)) before_table)
-
-table_stands : (entry : ℕ) (segments : List SegmentView) (sections : List SectionView)
-    → StandAt (elf_file entry segments sections) (told segments sections).offset (section_table (sections_at segments) (all_sections sections))
-table_stands entry segments [] = stands [] [] (elf_file entry segments []) 0 refl
-table_stands entry segments (section ∷ sections) = last_stands entry segments (section ∷ sections)
-
-pub tables : (entry : ℕ) (segments : List SegmentView) (sections : List SectionView) → AreTables entry segments sections
-tables entry segments sections = record {
-  header = header_stands entry segments sections;
-  header_size = header_size entry (length segments) (told segments sections);
-  program_headers = programs_stand entry segments sections;
-  program_headers_size = programs_size (segments_at segments) segments;
-  section_headers = table_stands entry segments sections;
-  section_headers_size = table_size (sections_at segments) (headers_at segments (all_sections sections)) (all_sections sections);
-}
 
 -- ---- names
 
-pub names_stand : (sections : List SectionView) → AreNames sections
+pub names_stand : (sections : List SectionView)
+    → AllByRecursion (λ p. StandAt (names_section sections).bytes p.0 (name_bytes p.1)) (placed name_bytes 1 (all_sections sections))
 names_stand [] = tt
 names_stand (section ∷ sections) =
     let others = section ∷ sections in

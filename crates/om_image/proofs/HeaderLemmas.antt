@@ -32,19 +32,19 @@ unfolding section_header word
 section_header_is p = refl
 
 -- the bytes of an ELF header, group by group
-abbrev ident : List ℕ
+abbrev pub ident : List ℕ
 ident = 127 ∷ 69 ∷ 76 ∷ 70 ∷ 1 ∷ 1 ∷ 1 ∷ 0 ∷ 0 ∷ 0 ∷ 0 ∷ 0 ∷ 0 ∷ 0 ∷ 0 ∷ 0 ∷ []
 
-abbrev kinds : List ℕ
+abbrev pub kinds : List ℕ
 kinds = flat_map half (2 ∷ 243 ∷ [])
 
-abbrev places : ℕ → SectionTable → List ℕ
+abbrev pub places : ℕ → SectionTable → List ℕ
 places entry table = flat_map word (1 ∷ entry ∷ 52 ∷ table.offset ∷ 0 ∷ [])
 
-abbrev counts : ℕ → SectionTable → List ℕ
+abbrev pub counts : ℕ → SectionTable → List ℕ
 counts programs table = flat_map half (52 ∷ 32 ∷ programs ∷ table.entry_size ∷ table.count ∷ table.names ∷ [])
 
-grouped : (entry programs : ℕ) (table : SectionTable) → ident ++ (kinds ++ (places entry table ++ counts programs table)) ≡ elf_header entry programs table
+pub grouped : (entry programs : ℕ) (table : SectionTable) → ident ++ (kinds ++ (places entry table ++ counts programs table)) ≡ elf_header entry programs table
 unfolding elf_header word half
 grouped entry programs table = refl
 

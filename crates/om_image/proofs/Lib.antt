@@ -1,4 +1,5 @@
 pub mod FoundLemmas
+pub mod ReadLemmas
 pub mod GrowingLemmas
 pub mod HeaderLemmas
 pub mod SizeLemmas

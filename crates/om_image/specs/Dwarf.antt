@@ -91,7 +91,7 @@ unit entries =
     let behind = half 4 ++ word 0 ++ 4 ∷ entries in
     word (length behind) ++ behind
 
--- ---- ranges: section 7.23
+-- ---- ranges: sections 2.17.3 and 7.24
 
 -- the list of one range, whose base address is 0
 abbrev pub range_list : (low high : ℕ) → List ℕ

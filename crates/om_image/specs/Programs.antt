@@ -140,7 +140,7 @@ worked_program B =
     program_of (code_at 65_536 countdown_code ∷ [])
     (debug_sections blocks_info ++ program_bits (codes ".debug_ranges") blocks_ranges ∷ []) [] []
 
--- the rows of `SELECT "down.n", COUNT(*) FROM states WHERE func = 'down' GROUP BY "down.n" ORDER BY 1`
+-- for each value of `n`, the number of states of the run that stand in `down` with it: `n` is kept at 20 below the stack pointer with which the call began, where 0 stands before
 abbrev pub small_truth : List (ℕ × ℕ)
 small_truth = (0, 26) ∷ (1, 10) ∷ (2, 10) ∷ (3, 10) ∷ []
 

@@ -17,7 +17,8 @@ pub struct Program {
     pub elf: Bytes,
     /// What the run reads from descriptor 0.
     pub input: Bytes,
-    /// The rows that a query about the run gives, each a value and a count; none where no query is told.
+    /// What is known of the run: for each value of a variable the number of states with it; none where
+    /// nothing is told.
     pub truth: Items<(u32, u64)>,
 }
 
