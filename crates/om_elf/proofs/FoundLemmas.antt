@@ -1,33 +1,26 @@
 -- The sections of an executable stand where its file tells.
 use Rattle.std.proofs.Common.{◌≡◌, ◌≢◌, ℕ, zero, suc, ◌+◌, ◌-◌, ◌*◌, ◌<◌, ◌≤◌, Bool, true, false, cond, not, nat_eq, leb, ltb, ◌&&◌, ◌||◌, List, [], ◌∷◌, ◌++◌, Option, Some, None, Ok, ok_or, map, length, take, drop, refl, sym, ap, subst, ◌∙◌, arith, append_assoc, length-take, length-drop}
 use Rattle.std.specs.Prelude.{All, filter, unwrap_or}
-use Rattle.std.specs.List.{AllByRecursion, enumerate_from, range_with_len}
+use Rattle.std.specs.List.{enumerate_from, range_with_len}
 use Rattle.std.specs.Option.{is_none, option_map}
 use Rattle.std.specs.Result.{result_map_both}
 use Rattle.std.proofs.lemmas.Bool.{le-leb, leb-true}
 use Rattle.std.proofs.lemmas.Bool.Decides.{nat_tests}
 use Rattle.std.proofs.lemmas.List.{take-append-drop}
 use Rattle.std.proofs.lemmas.List.Elements.{All-nil, All-cons, All-head, All-tail}
-use Rattle.om_base.specs.Firsts.{first_of}
 use Rattle.om_base.specs.Nul.{nul_from}
 use Rattle.om_base.specs.Numbers.{le, number_at}
 use Rattle.om_base.specs.Reading.{text_of}
 use Rattle.om_base.specs.declared.numbers.Num.TheVariants.{NoNul}
 use Rattle.om_base.proofs.FieldLaws as field
-use Rattle.om_elf.specs.Executable.{has_sections, header_faults, table_faults, tables_of, unless}
+use Rattle.om_elf.specs.Executable.{has_sections}
 use Rattle.om_elf.specs.Found.{AreSections, IsHeader, IsNamed, IsSection, IsString, IsTable, StandAt, Table, stands_for_one}
 use Rattle.om_elf.specs.Headers.{file_header, section_header, sections_of}
 use Rattle.om_elf.specs.Piece.{Piece}
 use Rattle.om_elf.specs.Sections.{has_bytes, has_names, is_section, is_unreadable, lies_in, name_in, name_of, name_section, names_of, piece_of, pieces_from, range_of, string_at}
-use Rattle.om_elf.specs.declared.fault.ElfFault.{ElfFault}
-use Rattle.om_elf.specs.declared.fault.ElfFault.TheVariants.{Short}
-use Rattle.om_elf.specs.declared.fault.ElfFault.TheVariants as fault
 use Rattle.om_elf.specs.declared.file_header.FileHeader.{FileHeader}
 use Rattle.om_elf.specs.declared.section_header.SectionHeader.{SectionHeader}
-use Rattle.om_elf.specs.declared.tables.Tables.{Tables}
 use Rattle.om_elf.proofs.BlockLemmas.{nul_within}
-use Rattle.om_elf.proofs.ExecutableLemmas.{all_readable}
-use Rattle.om_elf.proofs.ListLemmas.{neither}
 
 -- ---- numbers
 
@@ -37,22 +30,23 @@ number_by true field is = refl
 number_by false field is = absurd cc
 
 -- a number that lies in the file stands there
-tells : (size : ℕ) (file : List ℕ) (at : ℕ) → at + size ≤ length file → number_at size file at ≡ Some (unwrap_or (number_at size file at) 0)
+pub tells : (size : ℕ) (file : List ℕ) (at : ℕ) → at + size ≤ length file → number_at size file at ≡ Some (unwrap_or (number_at size file at) 0)
 unfolding number_at
 tells size file at inside = number_by (leb (at + size) (length file)) (take size (drop at file)) (le-leb (at + size) (length file) inside)
 
 -- ---- ranges
 
-range_stands : (file : List ℕ) (s : SectionHeader) → lies_in file s ≡ true → StandAt file s.sh_offset s.sh_size (range_of file s)
-range_stands file s lies =
-    let whole : s.sh_offset + s.sh_size ≤ length file = grind (arith, nat_tests, lies) in
-    record {
-      front = take s.sh_offset file;
-      back = drop s.sh_size (drop s.sh_offset file);
-      whole = sym (take-append-drop s.sh_offset file) ∙ ap (λ xs. take s.sh_offset file ++ xs) (sym (take-append-drop s.sh_size (drop s.sh_offset file)));
-      offset_is = omega (arith, length-take s.sh_offset file);
-      size_is = omega (arith, length-take s.sh_size (drop s.sh_offset file), length-drop s.sh_offset file);
-    }
+pub range_stands : (file : List ℕ) (offset size : ℕ) → offset + size ≤ length file → StandAt file offset size (take size (drop offset file))
+range_stands file offset size inside = record {
+  front = take offset file;
+  back = drop size (drop offset file);
+  whole = sym (take-append-drop offset file) ∙ ap (λ xs. take offset file ++ xs) (sym (take-append-drop size (drop offset file)));
+  offset_is = omega (arith, length-take offset file);
+  size_is = omega (arith, length-take size (drop offset file), length-drop offset file);
+}
+
+section_stands : (file : List ℕ) (s : SectionHeader) → lies_in file s ≡ true → StandAt file s.sh_offset s.sh_size (range_of file s)
+section_stands file s lies = range_stands file s.sh_offset s.sh_size (leb-true (s.sh_offset + s.sh_size) (length file) lies)
 
 -- ---- strings
 
@@ -162,7 +156,7 @@ module _ (file : List ℕ) where
         sym (ap (λ o. name_in o (header number)) strings_is) ∙ some_name (name_in names (header number)) there in
         record {
           strings = range_of file s;
-          strings_are = record { header = s; header_is = header_is h.e_shstrndx lie.0; strings_are = range_stands file s lie.1 };
+          strings_are = record { header = s; header_is = header_is h.e_shstrndx lie.0; strings_are = section_stands file s lie.1 };
           name_is = string_stands (range_of file s) (header number).sh_name (name_of names (header number)) told;
         }
 
@@ -184,7 +178,7 @@ module _ (file : List ℕ) where
           no_name = no_name number;
           bytes = λ some.
               let kept : has_bytes s ≡ true = grind (arith, nat_tests) in
-              subst (StandAt file s.sh_offset s.sh_size) (sym (ap (λ (b : Bool). cond b (range_of file s) []) kept)) (range_stands file s (parts.0 kept));
+              subst (StandAt file s.sh_offset s.sh_size) (sym (ap (λ (b : Bool). cond b (range_of file s) []) kept)) (section_stands file s (parts.0 kept));
           no_bytes = λ none.
               let lost : has_bytes s ≡ false = grind (arith, nat_tests) in
               ap (λ (b : Bool). cond b (range_of file s) []) lost;
@@ -218,7 +212,7 @@ module _ (file : List ℕ) where
       numbers_cons (is_section (header n)) n (header n) (filter (λ p. is_section p.1) (enumerate_from (n + 1) (headers_from (n + 1) count)))
       (filter (stands_for_one file table) (range_with_len (n + 1) count)) (numbers_from (n + 1) count)
 
-  all_found : 52 ≤ length file → has_sections file h ≡ true → has_names file h ≡ true
+  pub all_found : 52 ≤ length file → has_sections file h ≡ true → has_names file h ≡ true
       → All (λ s. is_unreadable file names s ≡ false) (sections_of file h) → AreSections file (pieces 0 h.e_shnum)
   all_found long whole named sound = record {
     table = table;
@@ -226,31 +220,3 @@ module _ (file : List ℕ) where
     each = each_from long whole named 0 h.e_shnum (omega arith) sound;
     numbers = numbers_from 0 h.e_shnum;
   }
-
--- ---- what holds where no rule is broken
-
-kept_by : (kept : Bool) (fault : ElfFault) → unless kept fault ≡ None → kept ≡ true
-kept_by true fault none = refl
-kept_by false fault none = absurd cc
-
-none_of : (rules : List (Option ElfFault)) → first_of rules ≡ None → AllByRecursion (λ rule. rule ≡ None) rules
-none_of [] none = tt
-none_of (rule ∷ rules) none =
-    let both = neither rule (first_of rules) none in
-    (both.0, none_of rules both.1)
-
-header_sound : (file : List ℕ) (h : FileHeader) → first_of (header_faults file h) ≡ None
-    → (52 ≤ length file) × (has_sections file h ≡ true) × (has_names file h ≡ true)
-header_sound file h none =
-    let tables = (none_of (header_faults file h) none).1.1.1.1.1.1.1 in
-    let enough : leb 52 (length file) ≡ true = kept_by (leb 52 (length file)) Short (none_of (header_faults file h) none).0 in
-    (leb-true 52 (length file) enough, kept_by (has_sections file h) (fault.Table 1) tables.0, kept_by (has_names file h) (fault.Table 2) tables.1.0)
-
--- the sections that are read from a file without a fault
-pub sections_found : (file : List ℕ) (h : FileHeader) (t : Tables) (sections : List Piece) → h ≡ file_header file → first_of (header_faults file h) ≡ None
-    → t ≡ tables_of file h → first_of (table_faults file t) ≡ None → sections ≡ pieces_from file t.names 0 t.sections → AreSections file sections
-sections_found file h t sections header sound tables none is =
-    let all : t ≡ tables_of file (file_header file) = tables ∙ ap (tables_of file) header in
-    let parts = header_sound file (file_header file) (sym (ap (λ x. first_of (header_faults file x)) header) ∙ sound) in
-    let readable = all_readable file (tables_of file (file_header file)) (sym (ap (λ x. first_of (table_faults file x)) all) ∙ none) in
-    subst (AreSections file) (sym (is ∙ ap (λ x. pieces_from file x.names 0 x.sections) all)) (all_found file parts.0 parts.1 parts.2 readable)

@@ -5,3 +5,4 @@ pub mod DisjointLemmas
 pub mod SegmentLemmas
 pub mod ExecutableLemmas
 pub mod FoundLemmas
+pub mod LoadedLemmas

@@ -3,7 +3,7 @@
 ghost use Rattle.std.specs.Prelude.{◌≡◌, ◌^◌, ◌<◌, length, All, IfOk, IfSome};
 ghost use Rattle.std.specs.Option.{option_map};
 ghost use Rattle.om_elf.specs.Executable.{elf_fault, elf_in};
-ghost use Rattle.om_elf.specs.Found.{AreSections};
+ghost use Rattle.om_elf.specs.Found.{IsFound};
 ghost use Rattle.om_elf.specs.Gives.{Gives};
 ghost use Rattle.om_elf.specs.Image.{AreLoadable};
 ghost use Rattle.om_elf.specs.Piece.{IsShort};
@@ -55,7 +55,7 @@ pub fn read_elf<'a>(alloc: Global, file: &'a [u8]) -> Result<Elf<'a>, ElfFault>
     ensures gives { Gives (elf_fault file.now) (elf_in file.now) result }
     ensures loadable { IfOk result (λ elf. AreLoadable elf.segments) }
     ensures short { IfOk result (λ elf. All IsShort elf.sections) }
-    ensures found { IfOk result (λ elf. AreSections file.now elf.sections) }
+    ensures found { IfOk result (IsFound file.now) }
 {
     let header = FileHeader::of(file);
     if let Some(fault) = header.fault(file) {

@@ -3,7 +3,7 @@ use Rattle.om_elf.specs.Executable.{elf_fault, elf_in}
 use Rattle.om_elf.specs.Sections.{pieces_from}
 use Rattle.om_elf.specs.Segments.{images_of}
 use Rattle.om_elf.proofs.ExecutableLemmas.{all_loadable, elf_of, gives_fault, tables_fault}
-use Rattle.om_elf.proofs.FoundLemmas.{sections_found}
+use Rattle.om_elf.proofs.LoadedLemmas.{elf_found}
 use Rattle.om_elf.proofs.elf.read_elf.Goals as goal
 
 pub returns-in-Some-2-clause-gives : goal.returns-in-Some-2-clause-gives
@@ -30,6 +30,7 @@ returns-clause-loadable c =
 pub returns-clause-found : goal.returns-clause-found
 returns-clause-found c =
     let file = c.args.file.now in
-    sections_found file c.of-header.result c.in_ok-tables.tables c.in_ok-sections.sections c.of-header.ensures (sym c.fault.ensures ∙ c.in_default.is) c.in_ok-tables.ensures.tables
-    (sym c.in_ok-fault.ensures ∙ c.in_default-2.is)
+    elf_found file c.of-header.result c.in_ok-tables.tables c.in_ok-segments.segments c.in_ok-sections.sections c.of-header.ensures (sym c.fault.ensures ∙ c.in_default.is)
+    c.in_ok-tables.ensures.tables (sym c.in_ok-fault.ensures ∙ c.in_default-2.is)
+    (c.in_ok-segments.ensures.segments ∙ ap (images_of file) c.as_slice.ensures)
     (c.in_ok-sections.ensures.sections ∙ ap (pieces_from file c.in_ok-tables.tables.names 0) c.as_slice-2.ensures)
