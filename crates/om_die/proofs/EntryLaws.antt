@@ -11,7 +11,7 @@ use Rattle.om_base.proofs.ReadingLaws.{append-nil, each_more}
 use Rattle.om_die.specs.Attributes.{AreAttributes, HasGap}
 use Rattle.om_die.specs.Entries.{AreDies, Close, Entry, IsItem, IsPlaced, Item, Placed, depth_after, die_of, dies_of}
 use Rattle.om_die.specs.Forms.{Around}
-use Rattle.om_die.specs.Refusals.{AreDiesRefused, HasCode, HasNoCode, IsItemRefused, gap_fault}
+use Rattle.om_die.specs.Refusals.{AreDiesRefused, HasCode, HasNoCode, IsItemRefused}
 use Rattle.om_die.specs.Steps.{IsCode, IsFirst, lack_fault}
 use Rattle.om_die.specs.Value.{Attribute}
 use Rattle.om_die.specs.declared.abbreviation.Abbreviation.{Abbreviation}

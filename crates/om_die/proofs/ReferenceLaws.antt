@@ -1,18 +1,18 @@
 -- Where references lead: into units that are skipped, or to offsets at which no entry stands.
-use Rattle.std.proofs.Common.{◌≡◌, ℕ, ◌+◌, ◌-◌, ◌<◌, ◌≤◌, suc, zero, Bool, true, false, cond, not, ◌&&◌, ◌||◌, leb, ltb, nat_eq, List, [], ◌∷◌, ◌++◌, length, take, drop, map, get_or, Option, Some, None, refl, sym, ap, subst, ◌∙◌, arith, inl, inr, length-append}
-use Rattle.std.specs.List.{AllWithin, list_any, flat_map}
+use Rattle.std.proofs.Common.{◌≡◌, ℕ, ◌+◌, ◌-◌, ◌<◌, ◌≤◌, suc, zero, Bool, true, false, ◌&&◌, ◌||◌, leb, ltb, nat_eq, List, [], ◌∷◌, ◌++◌, length, drop, map, get_or, Option, Some, None, refl, sym, ap, subst, ◌∙◌, arith, length-append}
+use Rattle.std.specs.List.{list_any}
 use Rattle.std.specs.List.Sorted.{IsPartitionPoint, IsPartitionedBy}
 use Rattle.std.specs.Option.{option_map, option_or}
 use Rattle.std.specs.Prelude.{find}
 use Rattle.std.proofs.Math.Path.{fun_ext}
 use Rattle.std.proofs.lemmas.List.Folds.{find-append}
 use Rattle.std.proofs.lemmas.List.{at_drop_all, at_drop_more}
-use Rattle.std.proofs.lemmas.Bool.{le-leb, le-ltb, leb-false, leb-true, lt-leb, lt-ltb}
+use Rattle.std.proofs.lemmas.Bool.{le-leb, le-ltb, leb-false, leb-true, lt-leb}
 use Rattle.om_base.specs.Reading.{EachFrom}
-use Rattle.om_die.specs.Pieces.{AreParts, parts_of, skips_in}
+use Rattle.om_die.specs.Pieces.{AreParts, skips_in}
 use Rattle.om_die.specs.References.{AreRising, has_lost_by, is_lost_by, is_skipped, is_within, settled_attribute}
 use Rattle.om_die.specs.Refusals.{IsTargetRefused}
-use Rattle.om_die.specs.Units.{ArePieces, AreUnits, IsPiece, Piece, Read, Sections, Skipped, attribute_of, dies_of_units, first_lost, has_lost, is_elsewhere, is_lost, settled, settled_die, settled_in, settled_unit, skipped_in, units_in}
+use Rattle.om_die.specs.Units.{AreUnits, IsPiece, Piece, Read, Sections, Skipped, attribute_of, dies_of_units, first_lost, has_lost, is_elsewhere, is_lost, settled, settled_die, settled_in, settled_unit, skipped_in, units_in}
 use Rattle.om_die.specs.Value.{Attribute, Value}
 use Rattle.om_die.specs.Value as v
 use Rattle.om_die.specs.declared.die.Die.{Die}

@@ -1,11 +1,10 @@
 -- All sections are some units or have a refusal.
-use Rattle.std.proofs.Common.{◌≡◌, ◌≢◌, ℕ, zero, suc, ◌+◌, ◌-◌, ◌<◌, ◌≤◌, Bool, true, false, List, [], ◌∷◌, ◌++◌, length, take, drop, Option, Some, None, Ok, Err, refl, sym, ap, subst, ◌∙◌, ◌⊎◌, arith, inl, inr, length-append, append_assoc}
+use Rattle.std.proofs.Common.{◌≡◌, ◌≢◌, ℕ, zero, suc, ◌+◌, ◌-◌, ◌≤◌, Bool, true, false, List, [], ◌∷◌, ◌++◌, length, take, drop, Option, Some, None, Ok, Err, refl, sym, ◌⊎◌, arith, inl, inr}
 use Rattle.std.specs.Prelude.{Result}
 use Rattle.std.proofs.lemmas.List.{take-append-drop}
 use Rattle.om_base.specs.Reading.{IsReading, Reader}
 use Rattle.om_base.proofs.LebLaws.{uleb_reads}
 use Rattle.om_die.specs.Abbreviations.{abbreviation_of}
-use Rattle.om_die.specs.Attributes.{AreAttributes, HasGap}
 use Rattle.om_die.specs.Entries.{AreDies, Close, Item, depth_after, die_of}
 use Rattle.om_die.specs.Forms.{Around}
 use Rattle.om_die.specs.Pieces.{AreParts, IsFirstUnit, parts_of, with_piece}
@@ -23,7 +22,6 @@ use Rattle.om_die.specs.declared.unit.Units.{Units}
 use Rattle.om_die.proofs.AttributeLaws.{list_or_gap}
 use Rattle.om_die.proofs.EntryLaws.{close_first, entry_first, has_code, refused_many, refused_shape}
 use Rattle.om_die.proofs.EntryLaws as entry
-use Rattle.om_die.proofs.HeadLaws.{lawful}
 use Rattle.om_die.proofs.ReaderLemmas.{absent}
 use Rattle.om_die.proofs.TableLaws.{some_table}
 use Rattle.om_die.proofs.UnitLaws.{first_skipped, first_unit, refused_unit}

@@ -1,5 +1,5 @@
 -- What the reader of .debug_info finds, unit by unit.
-use Rattle.std.proofs.Common.{◌≡◌, ◌≢◌, ℕ, ◌+◌, ◌-◌, ◌<◌, ◌≤◌, Bool, true, false, List, [], ◌∷◌, ◌++◌, length, take, drop, Option, Some, None, refl, sym, ap, subst, ◌∙◌, ◌⊎◌, arith, inl, inr, length-append, append_assoc}
+use Rattle.std.proofs.Common.{◌≡◌, ◌≢◌, ℕ, ◌+◌, ◌-◌, ◌<◌, ◌≤◌, true, false, List, [], ◌∷◌, ◌++◌, length, take, drop, Option, Some, None, refl, sym, ap, subst, ◌∙◌, ◌⊎◌, arith, inl, inr, length-append, append_assoc}
 use Rattle.std.specs.BTreeMap.{IsEmpty, get}
 use Rattle.std.specs.Ordering.{nat_cmp}
 use Rattle.std.specs.Prelude.{IfSome}
@@ -14,8 +14,6 @@ use Rattle.om_die.specs.Index.{IsIndex, find_in}
 use Rattle.om_die.specs.Pieces.{AreParts, AreTables, IsFirstUnit, parts_of, piece_of, skips_in, with_piece}
 use Rattle.om_die.specs.Refusals.{AreDiesRefused, IsSectionRefused, IsUnitRefused}
 use Rattle.om_die.specs.Units.{IsPiece, IsWhole, Piece, Read, Sections, Skipped, debug_abbrev_offset, dies_in, head_fault, is_read, most_dies, unit_length, units_in, version}
-use Rattle.om_die.specs.declared.abbreviation.Abbreviation.{Abbreviation}
-use Rattle.om_die.specs.declared.die.Die.{Die}
 use Rattle.om_die.specs.declared.fault.DieFault.{DieFault}
 use Rattle.om_die.specs.declared.fault.DieFault.TheVariants as d
 use Rattle.om_die.specs.declared.pieces.Part.{Part}

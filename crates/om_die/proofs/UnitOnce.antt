@@ -1,16 +1,14 @@
 -- The units of .debug_info have one reading, or one refusal.
-use Rattle.std.proofs.Common.{◌≡◌, ◌≢◌, ℕ, ◌+◌, ◌-◌, ◌*◌, ◌<◌, ◌≤◌, Bool, true, false, List, [], ◌∷◌, ◌++◌, length, take, drop, map, Option, Some, None, Result, Ok, Err, refl, sym, ap, subst, ◌∙◌, ◌⊎◌, arith, inl, inr, length-append, append_assoc}
-use Rattle.std.specs.Prelude.{IfErr, IfOk}
+use Rattle.std.proofs.Common.{◌≡◌, ℕ, ◌+◌, ◌-◌, ◌≤◌, true, false, List, [], ◌∷◌, ◌++◌, length, take, drop, Option, Some, None, refl, sym, ap, subst, ◌∙◌, ◌⊎◌, arith, inl, inr}
 use Rattle.std.proofs.Math.Seq.{drop-append_seam, take-append_seam}
-use Rattle.om_base.specs.Reading.{EachFrom}
-use Rattle.om_base.proofs.ReadingLaws.{append-nil, same_text}
+use Rattle.om_base.proofs.ReadingLaws.{append-nil}
 use Rattle.om_die.specs.Abbreviations.{abbreviation_of}
 use Rattle.om_die.specs.Abbreviations as table
 use Rattle.om_die.specs.Entries.{AreDies}
 use Rattle.om_die.specs.Forms.{Around}
 use Rattle.om_die.specs.Laws.{HasOneReading}
-use Rattle.om_die.specs.Refusals.{AreDiesRefused, IsRefusal, IsSectionRefused, IsTargetRefused, IsUnitRefused}
-use Rattle.om_die.specs.Units.{ArePieces, AreUnits, IsPiece, IsSkipped, IsUnit, IsWhole, Piece, Read, Sections, Skipped, debug_abbrev_offset, dies_in, first_lost, head_fault, is_read, most_dies, settled_in, skipped_in, unit_length, version}
+use Rattle.om_die.specs.Refusals.{AreDiesRefused, IsRefusal, IsSectionRefused, IsUnitRefused}
+use Rattle.om_die.specs.Units.{ArePieces, AreUnits, IsPiece, IsUnit, IsWhole, Piece, Read, Sections, Skipped, debug_abbrev_offset, dies_in, first_lost, head_fault, is_read, most_dies, settled_in, skipped_in, unit_length}
 use Rattle.om_die.specs.declared.die.Die.{Die}
 use Rattle.om_die.specs.declared.fault.DieFault.{DieFault}
 use Rattle.om_die.specs.declared.fault.DieFault.TheVariants as d
@@ -18,7 +16,7 @@ use Rattle.om_die.specs.declared.unit.Unit.{Unit}
 use Rattle.om_die.specs.declared.unit.Units.{Units}
 use Rattle.om_die.proofs.EntryOnce.{dies_not_refused, one_dies_refusal, one_list_of_dies}
 use Rattle.om_die.proofs.HeadLaws.{whole_front, whole_head}
-use Rattle.om_die.proofs.ListLaws.{AreSame, HasNext, compare, nothing_next, one_list_of}
+use Rattle.om_die.proofs.ListLaws.{HasNext, compare, nothing_next, one_list_of}
 use Rattle.om_die.proofs.TableLaws.{one_table}
 use Rattle.om_die.proofs.UnitLaws.{some_bytes}
 

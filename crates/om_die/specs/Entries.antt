@@ -1,6 +1,6 @@
 -- The entries of a unit, as a list with depths: DWARF 4, section 2.3 "Relationship of Debugging Information Entries",
 -- and section 7.5.2 "Debugging Information Entry".
-use Rattle.std.specs.Prelude.{◌≡◌, ◌≢◌, ℕ, ◌+◌, ◌-◌, Bool, if◌then◌else◌, List, [], ◌∷◌, ◌++◌, length, Option, Some, None}
+use Rattle.std.specs.Prelude.{◌≡◌, ◌≢◌, ℕ, ◌+◌, ◌-◌, Bool, if◌then◌else◌, List, [], ◌∷◌, ◌++◌, Option, Some}
 use Rattle.om_base.specs.Leb.{IsUleb}
 use Rattle.om_base.specs.Reading.{EachFrom}
 use Rattle.om_die.specs.Attributes.{AreAttributes}

@@ -1,5 +1,5 @@
 -- What the reader knows of the offsets that references lead to.
-use Rattle.std.specs.Prelude.{◌≡◌, ℕ, ◌+◌, ◌≤◌, Bool, false, ◌&&◌, not, nat_le, nat_lt, List, [], ◌∷◌, Option, Some}
+use Rattle.std.specs.Prelude.{ℕ, ◌+◌, ◌≤◌, Bool, false, ◌&&◌, not, nat_le, nat_lt, List, [], ◌∷◌, Option, Some}
 use Rattle.std.specs.List.{list_any}
 use Rattle.om_die.specs.Units.{attribute_of, settled}
 use Rattle.om_die.specs.Value.{Value, Attribute}

@@ -1,5 +1,5 @@
 -- What the reader of entries finds, item by item.
-use Rattle.std.specs.Prelude.{◌≡◌, ℕ, ◌≤◌, Bool, List, ◌++◌, length, Option, Some, None}
+use Rattle.std.specs.Prelude.{◌≡◌, ℕ, ◌≤◌, List, ◌++◌, length, Option, Some, None}
 use Rattle.om_base.specs.Leb.{IsUleb}
 use Rattle.om_die.specs.Entries.{Item, Close, IsItem, die_of}
 use Rattle.om_die.specs.Entries as spec

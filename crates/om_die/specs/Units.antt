@@ -1,6 +1,6 @@
 -- The units of .debug_info: DWARF 4, section 7.5.1 "Unit Headers", section 7.2.2 "Initial Length Values", and section 7.4 "32-Bit
 -- and 64-Bit DWARF Formats".
-use Rattle.std.specs.Prelude.{◌≡◌, ℕ, ◌+◌, ◌*◌, ◌≤◌, ◌^◌, Bool, false, ◌&&◌, ◌||◌, not, nat_eq, nat_le, nat_lt, if◌then◌else◌, List, [], ◌∷◌, ◌++◌, length, map, filter, find, sum_by, take, drop, slice_index, unwrap_or, IsTrue, Option, Some, None}
+use Rattle.std.specs.Prelude.{◌≡◌, ℕ, ◌+◌, ◌≤◌, Bool, false, ◌&&◌, ◌||◌, not, nat_eq, nat_le, nat_lt, if◌then◌else◌, List, [], ◌∷◌, length, map, find, drop, unwrap_or, IsTrue, Option, Some, None}
 use Rattle.std.specs.List.{list_any, flat_map}
 use Rattle.std.specs.Option.{option_map}
 use Rattle.om_base.specs.Firsts.{first_of}

@@ -1,6 +1,4 @@
-use Rattle.std.proofs.Common.{subst, sym}
 use Rattle.std.proofs.lemmas.List.{take_rest}
-use Rattle.om_die.specs.Steps.{IsCode}
 use Rattle.om_die.proofs.EntryLaws.{code_there, no_code}
 use Rattle.om_die.proofs.entries.read_code.Goals as goal
 

@@ -1,6 +1,5 @@
-use Rattle.std.proofs.Common.{◌∙◌, leb, rules, refl}
+use Rattle.std.proofs.Common.{◌∙◌, rules}
 use Rattle.std.proofs.lemmas.List.Sorted.{IsPartitionPoint-from_clause}
-use Rattle.om_die.specs.declared.skipped.Skipped.{Skipped}
 use Rattle.om_die.proofs.ReferenceLaws.{begin_in_order, begins_by, last_decides, nothing_begins}
 use Rattle.om_die.proofs.skipped.is_elsewhere.Goals as goal
 
