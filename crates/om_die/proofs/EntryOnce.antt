@@ -1,23 +1,20 @@
 -- The entries of a unit have one reading, or one refusal.
-use Rattle.std.proofs.Common.{◌≡◌, ◌≢◌, ℕ, ◌+◌, ◌-◌, ◌<◌, ◌≤◌, Bool, List, [], ◌∷◌, ◌++◌, length, Option, Some, None, refl, sym, ap, subst, ◌∙◌, ◌⊎◌, arith, inl, inr, length-append, append_assoc}
+use Rattle.std.proofs.Common.{◌≡◌, ℕ, ◌+◌, ◌-◌, ◌<◌, ◌≤◌, Bool, List, [], ◌∷◌, ◌++◌, length, Option, Some, None, refl, sym, ap, subst, ◌∙◌, arith, inl, inr, length-append, append_assoc}
 use Rattle.om_base.specs.Leb.{IsUleb}
-use Rattle.om_base.specs.Reading.{EachFrom}
 use Rattle.om_base.proofs.LebLaws.{uleb_reads}
 use Rattle.om_base.proofs.ReadingLaws.{append-nil}
 use Rattle.om_die.specs.Attributes.{AreAttributes, HasGap}
 use Rattle.om_die.specs.Entries.{AreDies, Close, Entry, IsEntry, IsItem, IsPlaced, Item, Placed, depth_after, die_of, dies_of}
 use Rattle.om_die.specs.Forms.{Around}
 use Rattle.om_die.specs.Laws.{HasOneReading}
-use Rattle.om_die.specs.Refusals.{AreDiesRefused, HasCode, HasNoCode, IsBroken, IsEntryRefused, IsItemRefused, gap_fault}
+use Rattle.om_die.specs.Refusals.{AreDiesRefused, HasCode, IsEntryRefused, IsItemRefused, gap_fault}
 use Rattle.om_die.specs.Value.{Attribute}
 use Rattle.om_die.specs.declared.abbreviation.Abbreviation.{Abbreviation}
-use Rattle.om_die.specs.declared.attributes.Gap.{Gap}
 use Rattle.om_die.specs.declared.die.Die.{Die}
 use Rattle.om_die.specs.declared.fault.DieFault.{DieFault}
-use Rattle.om_die.specs.declared.fault.DieFault.TheVariants as d
 use Rattle.om_die.proofs.AttributeLaws.{one_gap, one_list, whole_or_not}
 use Rattle.om_die.proofs.EntryLaws.{die_count, item_some}
-use Rattle.om_die.proofs.ListLaws.{AreSame, HasNext, compare, nothing_next, one_list_of}
+use Rattle.om_die.proofs.ListLaws.{HasNext, compare, nothing_next, one_list_of}
 use Rattle.om_die.proofs.ReaderLemmas.{reading_once}
 
 uleb_once : HasOneReading IsUleb
@@ -25,7 +22,7 @@ uleb_once = reading_once uleb_reads
 
 -- ---- one item
 
-entries_once : (around : Around) (find : ℕ → Option Abbreviation) (s t u v : List ℕ) (tag tag2 : ℕ) (children children2 : Bool) (attrs attrs2 : List Attribute)
+pub entries_once : (around : Around) (find : ℕ → Option Abbreviation) (s t u v : List ℕ) (tag tag2 : ℕ) (children children2 : Bool) (attrs attrs2 : List Attribute)
     → IsEntry around find s tag children attrs → IsEntry around find t tag2 children2 attrs2 → s ++ u ≡ t ++ v
     → (Entry tag children attrs ≡ Entry tag2 children2 attrs2) × (s ≡ t) × (u ≡ v)
 entries_once around find s t u v tag tag2 children children2 attrs attrs2 one other same =

@@ -14,3 +14,5 @@ pub mod EntryOnce
 pub mod UnitOnce
 pub mod ReadLaws
 pub mod TotalLaws
+pub mod FormLaws
+pub mod DepthLaws

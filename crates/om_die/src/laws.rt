@@ -1,7 +1,7 @@
-//! Laws of values, attributes, tables and units. They have no code.
+//! Laws of values, attributes, tables, forms, entries and units. They have no code.
 
 ghost use Rattle.std.specs.Prelude.{◌≡◌, ◌⊎◌};
-ghost use Rattle.om_die.specs.Laws.{OneValue, OneList, WholeOrNot, OneGap, ListOrGap, SomeTable, OneTable, RefusedIsAbsent, RefusedForGood};
+ghost use Rattle.om_die.specs.Laws.{OneValue, OneList, WholeOrNot, OneGap, ListOrGap, SomeTable, OneTable, RefusedIsAbsent, RefusedForGood, EachFormHasCode, OneCode, EachFormSpells, FirstBelowNone, OneDeeper, DeeperBelowChildren, DepthOfNext};
 ghost use Rattle.om_die.specs.Refusals.{IsRefusal};
 ghost use Rattle.om_die.specs.Units.{AreUnits, Sections};
 ghost use Rattle.om_die.specs.declared.fault.DieFault.{DieFault};
@@ -31,6 +31,23 @@ pub fn one_table()
 pub fn refused_for_good()
     ensures absent { RefusedIsAbsent }
     ensures for_good { RefusedForGood }
+{}
+
+/// Each form has one code, and some bytes spell a value in it.
+pub fn each_form()
+    ensures code { EachFormHasCode }
+    ensures once { OneCode }
+    ensures spells { EachFormSpells }
+{}
+
+/// The first entry of a unit stands below none. Each other is at most one level deeper than the one
+/// before it, deeper only where that one has children, and one level less deep for each end between
+/// them.
+pub fn depths_of_entries()
+    ensures first { FirstBelowNone }
+    ensures most { OneDeeper }
+    ensures children { DeeperBelowChildren }
+    ensures next { DepthOfNext }
 {}
 
 /// The sections are read in one way: they are some units or have one refusal, and never both.

@@ -33,7 +33,8 @@ pub use attribute::{Attr, AttrValue};
 pub use die::Die;
 pub use fault::DieFault;
 pub use laws::{
-    one_list_of_attributes, one_reading, one_table, one_value, refused_for_good, units_or_refusal,
+    depths_of_entries, each_form, one_list_of_attributes, one_reading, one_table, one_value,
+    refused_for_good, units_or_refusal,
 };
 pub use ranges::read_ranges;
 pub use reader::read_units;
