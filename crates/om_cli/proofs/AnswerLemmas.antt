@@ -196,13 +196,13 @@ unput_yet (Some files) after name bytes same = inl same
 -- a command that has left all as it was, for want of memory
 no_memory_ends : (effect : Effect) (old : Option (List ℕ)) (before after : Option FilesByName)
     → after ≡ before → Ends effect old old before after no_memory
-no_memory_ends (prints text) old before after same = record { is_end = tt; printed = (0, appends_nothing old); left = same }
+no_memory_ends (prints text) old before after same = record { is_end = tt; printed = (0, appends_nothing old); left = same; put_first = tt }
 no_memory_ends (puts name bytes text) old before after same =
-    record { is_end = tt; printed = (0, appends_nothing old); left = unput_yet before after name bytes same }
-no_memory_ends (refuses refusal) old before after same = record { is_end = tt; printed = keeps_same old; left = same }
-no_memory_ends (exceeds name) old before after same = record { is_end = tt; printed = keeps_same old; left = same }
-no_memory_ends (misses name) old before after same = record { is_end = tt; printed = keeps_same old; left = same }
-no_memory_ends depends old before after same = record { is_end = tt; printed = ([], appends_nothing old); left = tt }
+    record { is_end = tt; printed = (0, appends_nothing old); left = unput_yet before after name bytes same; put_first = inl (keeps_same old) }
+no_memory_ends (refuses refusal) old before after same = record { is_end = tt; printed = keeps_same old; left = same; put_first = tt }
+no_memory_ends (exceeds name) old before after same = record { is_end = tt; printed = keeps_same old; left = same; put_first = tt }
+no_memory_ends (misses name) old before after same = record { is_end = tt; printed = keeps_same old; left = same; put_first = tt }
+no_memory_ends depends old before after same = record { is_end = tt; printed = ([], appends_nothing old); left = tt; put_first = tt }
 
 -- a command that was refused, and has left all as it was
 pub refused_ends : (effect : Effect) (why : Refused) (old : Option (List ℕ)) (before after : Option FilesByName)
@@ -212,16 +212,16 @@ refused_ends effect (Unread name) old before after is same = unread_ends effect 
   where
     unread_ends : (effect : Effect) (name : List ℕ) (old : Option (List ℕ)) (before after : Option FilesByName)
         → after ≡ before → Ends effect old old before after (unread name)
-    unread_ends (prints text) name old before after same = record { is_end = tt; printed = keeps_same old; left = same }
-    unread_ends (puts n bytes text) name old before after same = record { is_end = tt; printed = keeps_same old; left = same }
-    unread_ends (refuses refusal) name old before after same = record { is_end = tt; printed = keeps_same old; left = same }
-    unread_ends (exceeds n) name old before after same = record { is_end = tt; printed = keeps_same old; left = same }
-    unread_ends (misses n) name old before after same = record { is_end = tt; printed = keeps_same old; left = same }
-    unread_ends depends name old before after same = record { is_end = tt; printed = keeps_same old; left = same }
-refused_ends effect (Because refusal) old before after (inl is) same = rw is (record { is_end = refl; printed = keeps_same old; left = same })
-refused_ends effect (Because refusal) old before after (inr is) same = rw is (record { is_end = tt; printed = keeps_same old; left = same })
-refused_ends effect (Exceeded name) old before after (inl is) same = rw is (record { is_end = refl; printed = keeps_same old; left = same })
-refused_ends effect (Exceeded name) old before after (inr is) same = rw is (record { is_end = tt; printed = keeps_same old; left = same })
+    unread_ends (prints text) name old before after same = record { is_end = tt; printed = keeps_same old; left = same; put_first = tt }
+    unread_ends (puts n bytes text) name old before after same = record { is_end = tt; printed = keeps_same old; left = same; put_first = tt }
+    unread_ends (refuses refusal) name old before after same = record { is_end = tt; printed = keeps_same old; left = same; put_first = tt }
+    unread_ends (exceeds n) name old before after same = record { is_end = tt; printed = keeps_same old; left = same; put_first = tt }
+    unread_ends (misses n) name old before after same = record { is_end = tt; printed = keeps_same old; left = same; put_first = tt }
+    unread_ends depends name old before after same = record { is_end = tt; printed = keeps_same old; left = same; put_first = tt }
+refused_ends effect (Because refusal) old before after (inl is) same = rw is (record { is_end = refl; printed = keeps_same old; left = same; put_first = tt })
+refused_ends effect (Because refusal) old before after (inr is) same = rw is (record { is_end = tt; printed = keeps_same old; left = same; put_first = tt })
+refused_ends effect (Exceeded name) old before after (inl is) same = rw is (record { is_end = refl; printed = keeps_same old; left = same; put_first = tt })
+refused_ends effect (Exceeded name) old before after (inr is) same = rw is (record { is_end = tt; printed = keeps_same old; left = same; put_first = tt })
 
 -- the cause of a refusal
 pub refused_cause : (request : Request) (files : Option FilesByName) (before after : Counts) (why : Refused)

@@ -146,8 +146,24 @@ Leaves effect old new (exceeded name) = new ≡ old
 Leaves effect old new (unread name) = new ≡ old
 Leaves effect old new (unput name) = new ≡ old
 
+-- the file is put before anything is printed: where memory was wanting, nothing was printed from old to new, or the shelf holds the file
+abbrev pub PutsFirst : Effect → (old new : Option (List ℕ)) → (before now : Option FilesByName) → End → Type 0
+PutsFirst (puts name bytes text) old new before now no_memory = Keeps old new ⊎ IfSome before (λ files. Holds files now name bytes)
+PutsFirst (prints text) old new before now no_memory = Unit {0}
+PutsFirst (refuses refusal) old new before now no_memory = Unit {0}
+PutsFirst (exceeds name) old new before now no_memory = Unit {0}
+PutsFirst (misses name) old new before now no_memory = Unit {0}
+PutsFirst depends old new before now no_memory = Unit {0}
+PutsFirst effect old new before now done = Unit {0}
+PutsFirst effect old new before now (refused refusal) = Unit {0}
+PutsFirst effect old new before now (exceeded name) = Unit {0}
+PutsFirst effect old new before now (unread name) = Unit {0}
+PutsFirst effect old new before now (unput name) = Unit {0}
+PutsFirst effect old new before now unwritten = Unit {0}
+
 -- an end of what a command comes to, what it printed from old to new, and what the shelf held before and holds now
 pub record Ends (effect : Effect) (old new : Option (List ℕ)) (before now : Option FilesByName) (end : End) : Type 0 where
   pub is_end : IsEndOf effect end
   pub printed : Prints effect old new end
   pub left : Leaves effect before now end
+  pub put_first : PutsFirst effect old new before now end
