@@ -111,6 +111,16 @@ Prints effect old new (exceeded name) = Keeps old new
 Prints effect old new (unread name) = Keeps old new
 Prints effect old new (unput name) = Keeps old new
 
+-- the end is one at which nothing is told
+abbrev pub IsDone : End → Type 0
+IsDone done = Unit {0}
+IsDone unwritten = ⊥
+IsDone no_memory = ⊥
+IsDone (refused refusal) = ⊥
+IsDone (exceeded name) = ⊥
+IsDone (unread name) = ⊥
+IsDone (unput name) = ⊥
+
 -- the end is one at which nothing was printed or tried to be
 abbrev pub IsSilent : End → Type 0
 IsSilent done = ⊥

@@ -3,6 +3,7 @@
 ghost use Rattle.std.specs.Prelude.{◌≡◌, [], ◌∷◌, ◌++◌, codes};
 ghost use Rattle.om_cli.specs.Ending.{end_meant};
 ghost use Rattle.om_cli.specs.Lines.{line_of, status_of};
+ghost use Rattle.om_cli.specs.Result.{IsDone};
 ghost use Rattle.om_table.specs.Escape.{escaped};
 ghost use Rattle.om_io.specs.Writing.{Puts, Tells};
 
@@ -65,11 +66,12 @@ impl Ending<'_> {
     /// Writes the line of the ending, if it has one.
     #[tactic(auto, unfolding(crate::specs::Lines::line_of))]
     fn put<P: Sink>(&self, sink: &mut P) -> Result<(), SinkFail>
-        ensures { Puts (P.written sink.old) (P.written sink.new) (P.faults sink.old) (P.faults sink.new)
+        ensures line { Puts (P.written sink.old) (P.written sink.new) (P.faults sink.old) (P.faults sink.new)
             (P.refused_growths sink.old) (P.refused_growths sink.new) (line_of (end_meant self.now)) result }
+        ensures nothing { IsDone (end_meant self.now) → sink.new ≡ sink.old }
     {
         match self {
-            Ending::Done => put_all(sink, b""),
+            Ending::Done => Ok(()),
             Ending::Refused(refusal) => put_refusal(sink, refusal),
             Ending::NoMemory => put_all(sink, b"omni: memory\n"),
             Ending::Unread(name) => put_name(sink, b"omni: read: ", name, b"\n"),
@@ -87,8 +89,9 @@ impl Ending<'_> {
     /// Tells the line of the ending, if it has one, as far as the sink takes it.
     #[tactic(auto, using(om_io::proofs::PutsLemmas::puts_tells))]
     pub fn tell<P: Sink>(&self, sink: &mut P)
-        ensures { Tells (P.written sink.old) (P.written sink.new) (P.faults sink.old) (P.faults sink.new)
+        ensures line { Tells (P.written sink.old) (P.written sink.new) (P.faults sink.old) (P.faults sink.new)
             (P.refused_growths sink.old) (P.refused_growths sink.new) (line_of (end_meant self.now)) }
+        ensures nothing { IsDone (end_meant self.now) → sink.new ≡ sink.old }
     {
         let _ = self.put(sink);
     }

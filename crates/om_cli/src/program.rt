@@ -8,7 +8,7 @@ ghost use Rattle.om_cli.specs.Command as spec;
 ghost use Rattle.om_cli.specs.Command.{puts};
 ghost use Rattle.om_cli.specs.Readings.{Readings};
 ghost use Rattle.om_cli.specs.Reads.{AnswersLog, AnswersText, AreReadings, AreReadingsOf, IsUnread};
-ghost use Rattle.om_cli.specs.Result.{Ends, HasCause, IsPutCause, IsSilent, ReadsFile, ReadsPair};
+ghost use Rattle.om_cli.specs.Result.{Ends, HasCause, IsDone, IsPutCause, IsSilent, ReadsFile, ReadsPair};
 ghost use Rattle.om_cli.specs.Words.{asked_by};
 ghost use Rattle.om_io.specs.Shelf.{NoneFalls};
 ghost use Rattle.om_io.specs.Writing.{Tells};
@@ -231,7 +231,8 @@ pub fn omni<F: Shelf, O: Sink, P: Sink>(
         (record { takes = F.failed_takes shelf.new; puts = F.failed_puts shelf.new; faults = O.faults out.new }) end
         × (IsSilent end → out.new ≡ out.old)
         × Tells (P.written err.old) (P.written err.new) (P.faults err.old) (P.faults err.new)
-        (P.refused_growths err.old) (P.refused_growths err.new) (line_of end) }
+        (P.refused_growths err.old) (P.refused_growths err.new) (line_of end)
+        × (IsDone end → err.new ≡ err.old) }
 
     // A command that puts no file leaves all that the shelf holds.
     ensures told { file_put (request_of (map string_bytes words.now.items)) ≡ None → F.told shelf.new ≡ F.told shelf.old }
