@@ -3,7 +3,7 @@
 //! A control character, DEL and the backslash are a backslash and two hexadecimal digits, so that the
 //! line stays one line and can be read back.
 
-ghost use Rattle.std.specs.Prelude.{◌≡◌, ℕ, ◌<◌, ◌++◌, length, take, IfOk, OnOk, OnErr};
+ghost use Rattle.std.specs.Prelude.{◌≡◌, ℕ, ◌<◌, ◌≤◌, ◌^◌, ◌++◌, length, take, IfOk, OnOk, OnErr};
 ghost use Rattle.om_table.specs.Escape.{escaped, escaped_byte, hex_digit};
 
 use om_base::{NoMemory, Text};
@@ -44,7 +44,8 @@ fn escape_byte(text: &mut Text, byte: u8) -> Result<(), NoMemory>
 
 /// How many bytes `bytes` are printed as. There is no memory for a text whose length isn't a `usize`.
 pub fn escaped_len(bytes: &[u8]) -> Result<usize, NoMemory>
-    ensures { IfOk result (λ len. len ≡ length (escaped bytes.now)) }
+    ensures len { IfOk result (λ len. len ≡ length (escaped bytes.now)) }
+    ensures refused { OnErr result (2 ^ 64 ≤ length (escaped bytes.now)) }
 {
     let mut len = 0usize;
     for byte in bytes {

@@ -1,6 +1,6 @@
 //! What can stand in a table, and how it is shown there.
 
-ghost use Rattle.std.specs.Prelude.{◌≡◌, ◌++◌, length, List, ℕ, IfOk, OnOk};
+ghost use Rattle.std.specs.Prelude.{◌≡◌, ◌≤◌, ◌^◌, ◌++◌, length, List, ℕ, IfOk, OnOk, OnErr};
 ghost use Rattle.om_table.specs.Escape.{escaped};
 ghost use Rattle.om_table.specs.Text as spec;
 
@@ -18,9 +18,10 @@ pub trait Printed {
     /// How it stands between commas.
     ghost field: { Self → List ℕ };
 
-    /// How many bytes it is shown as.
+    /// How many bytes it is shown as. It takes no memory, and is refused only where their number isn't a `usize`.
     fn shown_len(&self) -> Result<usize, NoMemory>
-        ensures { IfOk result (λ len. len ≡ length (shown self.now)) };
+        ensures len { IfOk result (λ len. len ≡ length (shown self.now)) }
+        ensures refused { OnErr result (2 ^ 64 ≤ length (shown self.now)) };
 
     /// Appends it as it is shown. After a refusal a part of it may stand at the end of `text`.
     fn show_into(&self, text: &mut Text) -> Result<(), NoMemory>

@@ -10,7 +10,7 @@ loop-column-preserved g c =
     let long : length (map shown cells) ≡ length cells = length-map cells shown in
     let here = ap shown c.index-cells-column.is ∙ sym (get_or-map shown cells c.loop-column.column c.index-cells-column.result [] c.loop-column-test.true) in
     let raised : c.max.result ≡ max (get_or c.loop-column.widths c.loop-column.column 0) (length (shown c.index-cells-column.result)) =
-    c.max.ensures ∙ ap (max (get_or c.loop-column.widths c.loop-column.column 0)) c.in_ok-shown_len.ensures in
+    c.max.ensures ∙ ap (max (get_or c.loop-column.widths c.loop-column.column 0)) c.in_ok-shown_len.ensures.len in
     widened_more c.args.widths.now (map shown cells) c.loop-column.column c.max.result (shown c.index-cells-column.result) c.loop-column.widths
     (c.requires ∙ sym long) (omega (arith, long, c.loop-column-test.true)) raised here c.loop-column.invariant
 
