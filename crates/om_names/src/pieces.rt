@@ -62,15 +62,13 @@ impl<'s, 'a> Merging<'s, 'a> {
             let above = piece.owner.again();
             let owner = above.over(&below);
             let from = piece.from;
-            Some((
-                Piece { from, owner },
-                Merging {
-                    first,
-                    above,
-                    second,
-                    below,
-                },
-            ))
+            let rest = Merging {
+                first,
+                above,
+                second,
+                below,
+            };
+            Some((Piece { from, owner }, rest))
         } else {
             let Some((piece, second)) = second.split_first() else {
                 return None;
@@ -78,15 +76,13 @@ impl<'s, 'a> Merging<'s, 'a> {
             let below = piece.owner.again();
             let owner = above.over(&below);
             let from = piece.from;
-            Some((
-                Piece { from, owner },
-                Merging {
-                    first,
-                    above,
-                    second,
-                    below,
-                },
-            ))
+            let rest = Merging {
+                first,
+                above,
+                second,
+                below,
+            };
+            Some((Piece { from, owner }, rest))
         }
     }
 }
