@@ -7,7 +7,7 @@ use Rattle.std.specs.List.{AllByRecursion, flat_map}
 use Rattle.std.specs.Option.{option_map}
 use Rattle.om_base.specs.Numbers.{bytes_at, le, number_at}
 use Rattle.om_image.specs.ElfFile.{SegmentView, SectionView, elf_file, elf_header, half, headers_at, name_bytes, names_section, p_flags_of, placed, placed_sections, program_header, section_bytes, section_header, sections_at, segment_bytes, segments_at, sh_type_of, word}
-use Rattle.om_image.specs.Found.{AreSections, AreSegments, AreSomeSections, EachAt, EverythingIsFound, HaveRoom, IsSection, IsSegment, StandAt, Tells}
+use Rattle.om_image.specs.Found.{AreSections, AreSegments, AreSomeSections, EachAt, EverythingIsFound, HaveRoom, IsExecutable, IsSection, IsSegment, StandAt, Tells}
 use Rattle.om_image.specs.declared.elf_file.SectionTable.{SectionTable}
 use Rattle.om_image.specs.declared.section.SectionKind.{SectionKind}
 use Rattle.om_image.specs.declared.section.SectionKind.TheVariants.{ProgramBits, StringTable}
@@ -100,6 +100,26 @@ module _ (file rest : List ℕ) (entry programs : ℕ) (table : SectionTable) (w
   before_counts : length ((ident ++ kinds) ++ places entry table) ≡ 40
   unfolding half word
   before_counts = refl
+
+  from_kinds : file ≡ ident ++ (kinds ++ (places entry table ++ (counts programs table ++ rest)))
+  from_kinds = from_places ∙ append_assoc ident kinds (places entry table ++ (counts programs table ++ rest))
+
+  abbrev magic : List ℕ
+  magic = 0x7F ∷ 0x45 ∷ 0x4C ∷ 0x46 ∷ 1 ∷ 1 ∷ 1 ∷ []
+
+  abbrev padding : List ℕ
+  padding = 0 ∷ 0 ∷ 0 ∷ 0 ∷ 0 ∷ 0 ∷ 0 ∷ 0 ∷ 0 ∷ []
+
+  executable : IsExecutable file
+  executable =
+      let behind = places entry table ++ (counts programs table ++ rest) in
+      record {
+        e_ident = ap (λ (zs : List ℕ). bytes_at 7 zs 0) from_kinds ∙ found.stands [] magic (padding ++ (kinds ++ behind)) 0 refl;
+        e_type = half_tells file ident [] 2 (243 ∷ []) behind 16 from_kinds refl (omega arith);
+        e_machine = half_tells file ident (2 ∷ []) 243 [] behind 18 from_kinds refl (omega arith);
+        e_version = word_tells file (ident ++ kinds) [] 1 (entry ∷ 52 ∷ table.offset ∷ 0 ∷ []) (counts programs table ++ rest) 20 from_places (omega (arith, before_places)) (omega arith);
+        e_flags = word_tells file (ident ++ kinds) (1 ∷ entry ∷ 52 ∷ table.offset ∷ []) 0 [] (counts programs table ++ rest) 36 from_places (omega (arith, before_places)) (omega arith);
+      }
 
   e_entry : entry < 2 ^ 32 → Tells 4 file 24 entry
   e_entry small =
@@ -256,6 +276,9 @@ module _ (entry : ℕ) (segments : List SegmentView) (sections : List SectionVie
   header_whole : file ≡ header ++ rest
   header_whole = found.from_programs entry segments sections
 
+  told_executable : IsExecutable file
+  told_executable = executable file rest entry (length segments) told header_whole
+
   entry_told : Tells 4 file 24 entry
   entry_told = e_entry file rest entry (length segments) told header_whole room.small_entry
 
@@ -372,6 +395,7 @@ any_found entry segments (section ∷ sections) room = some_found entry segments
 
 pub everything_is_found : EverythingIsFound
 everything_is_found entry segments sections room = record {
+  executable = told_executable entry segments sections room;
   e_entry = entry_told entry segments sections room;
   segments_are = segments_found entry segments sections room;
   sections_are = any_found entry segments sections room;

@@ -81,8 +81,17 @@ pub record HaveRoom (entry : ℕ) (segments : List SegmentView) (sections : List
   pub few_sections : length sections + 2 < 2 ^ 16
   pub small : length (elf_file entry segments sections) < 2 ^ 32
 
--- a file tells where to begin, and where the segments, the sections and their names stand
+-- a file tells what it is: ELFCLASS32, ELFDATA2LSB and EV_CURRENT behind the magic number, ET_EXEC, EM_RISCV, EV_CURRENT, and no flags
+pub record IsExecutable (file : List ℕ) : Type 0 where
+  pub e_ident : StandAt file 0 (0x7F ∷ 0x45 ∷ 0x4C ∷ 0x46 ∷ 1 ∷ 1 ∷ 1 ∷ [])
+  pub e_type : Tells 2 file 16 2
+  pub e_machine : Tells 2 file 18 243
+  pub e_version : Tells 4 file 20 1
+  pub e_flags : Tells 4 file 36 0
+
+-- it tells this, where to begin, and where the segments, the sections and their names stand
 pub record IsFound (file : List ℕ) (entry : ℕ) (segments : List SegmentView) (sections : List SectionView) : Type 0 where
+  pub executable : IsExecutable file
   pub e_entry : Tells 4 file 24 entry
   pub segments_are : AreSegments file segments
   pub sections_are : AreSections file sections
