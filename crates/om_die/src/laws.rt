@@ -33,7 +33,8 @@ pub fn refused_for_good()
     ensures for_good { RefusedForGood }
 {}
 
-/// Each form has one code, and some bytes spell a value in it.
+/// Each form has one code, and some bytes spell a value in it; in that of an offset of `.debug_str`
+/// where a string stands there.
 pub fn each_form()
     ensures code { EachFormHasCode }
     ensures once { OneCode }
@@ -42,7 +43,7 @@ pub fn each_form()
 
 /// The first entry of a unit stands below none. Each other is at most one level deeper than the one
 /// before it, deeper only where that one has children, and one level less deep for each end between
-/// them.
+/// them, as far as one is open.
 pub fn depths_of_entries()
     ensures first { FirstBelowNone }
     ensures most { OneDeeper }
