@@ -1,4 +1,4 @@
-use Rattle.std.proofs.Common.{◌≡◌, sym, subst, arith, None}
+use Rattle.std.proofs.Common.{◌≡◌, sym, subst, None}
 use Rattle.om_cli.proofs.AnswerLemmas.{debug_given, debug_refused, elf_refused, only_fault, only_thing}
 use Rattle.om_cli.specs.Command.{judged_log, question_of}
 use Rattle.om_cli.specs.Readings.{IsDebugReading}
