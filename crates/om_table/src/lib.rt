@@ -1,7 +1,7 @@
 //! The printed text of a table of named columns.
 #![tactic(auto)]
 
-mod escape;
+mod escaping;
 mod fault;
 mod lines;
 mod printed;
@@ -10,6 +10,7 @@ mod quotes;
 mod table;
 mod widths;
 
+pub use escaping::escape;
 pub use fault::TableFault;
 pub use printing::print_table;
 pub use table::{Style, Table};

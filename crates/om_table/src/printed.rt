@@ -4,7 +4,7 @@ ghost use Rattle.std.specs.Prelude.{◌≡◌, ◌≤◌, ◌^◌, ◌++◌, len
 ghost use Rattle.om_table.specs.Escape.{escaped};
 ghost use Rattle.om_table.specs.Text as spec;
 
-use crate::escape::{escape_into, escaped_len};
+use crate::escaping::{escape_into, escaped_len};
 use crate::quotes::quote_into;
 use itoa::Buffer;
 use om_base::{NoMemory, Text, put_decimal};

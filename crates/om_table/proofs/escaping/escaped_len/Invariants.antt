@@ -1,6 +1,6 @@
 use Rattle.std.proofs.Common.{◌≡◌, ◌+◌, length, drop}
 use Rattle.om_table.specs.Escape.{escaped}
-use Rattle.om_table.proofs.escape.escaped_len.Given as goal
+use Rattle.om_table.proofs.escaping.escaped_len.Given as goal
 
 -- the length so far, and that of the bytes that are left
 abbrev pub invariant-loop-byte : goal.invariant-loop-byte

@@ -4,7 +4,7 @@
 //! line stays one line and can be read back.
 
 ghost use Rattle.std.specs.Prelude.{◌≡◌, ℕ, ◌<◌, ◌≤◌, ◌^◌, ◌++◌, length, take, IfOk, OnOk, OnErr};
-ghost use Rattle.om_table.specs.Escape.{escaped, escaped_byte, hex_digit};
+ghost use Rattle.om_table.specs.Escape.{escape_in, escaped, escaped_byte, hex_digit};
 
 use om_base::{NoMemory, Text};
 
@@ -20,14 +20,24 @@ fn hex(digit: u8) -> u8
     }
 }
 
+/// The three bytes for a byte that isn't printed as it stands; none for any other.
+pub fn escape(byte: u8) -> Option<[u8; 3]>
+    ensures { result ≡ escape_in byte }
+{
+    if byte < 32 || byte == 127 || byte == b'\\' {
+        Some([b'\\', hex(byte / 16), hex(byte % 16)])
+    } else {
+        None
+    }
+}
+
 /// How many bytes a byte is printed as.
 fn escaped_byte_len(byte: u8) -> usize
     ensures { result ≡ length (escaped_byte byte) }
 {
-    if byte < 32 || byte == 127 || byte == b'\\' {
-        3
-    } else {
-        1
+    match escape(byte) {
+        Some(escape) => escape.len(),
+        None => 1,
     }
 }
 
@@ -36,10 +46,10 @@ fn escape_byte(text: &mut Text, byte: u8) -> Result<(), NoMemory>
     ensures ok { OnOk result (text.new ≡ text.old ++ escaped_byte byte) }
     ensures err { OnErr result (text.new ≡ text.old) }
 {
-    if byte < 32 || byte == 127 || byte == b'\\' {
-        return text.add(&[b'\\', hex(byte / 16), hex(byte % 16)]);
+    match escape(byte) {
+        Some(escape) => text.add(&escape),
+        None => text.add(&[byte]),
     }
-    text.add(&[byte])
 }
 
 /// How many bytes `bytes` are printed as. There is no memory for a text whose length isn't a `usize`.
