@@ -5,7 +5,7 @@ use Rattle.std.proofs.lemmas.List.{take-append-drop, take_rest}
 use Rattle.std.proofs.KnownBytes.{Appends-nil, Appends-trans}
 use Rattle.std.specs.Io.KnownBytes.{Appends, Keeps}
 use Rattle.om_io.specs.Counts.{Rose}
-use Rattle.om_io.specs.Sink.{SinkFailsByCount}
+use Rattle.om_io.specs.Sink.{SinkFailsByCount, SinkTold}
 use Rattle.om_io.specs.Writing.{Puts, Tells}
 use Rattle.om_io.specs.declared.sink.SinkFail.{SinkFail}
 use Rattle.om_io.specs.declared.sink.SinkFail.TheVariants.{NoMemory, Failed}
@@ -21,13 +21,17 @@ pub rose_between : (a b c d : ℕ) → a ≤ b → Rose b c → c ≤ d → Rose
 rose_between a b c d p q r = grind arith
 
 -- two pieces of work, of which the first did not fail, fail as the second does
-pub causes_then : {T U : Type 0} (f f' f'' g g' g'' : ℕ) (first : Result T SinkFail) (last : Result U SinkFail)
-    → SinkFailsByCount f f' g g' first → SinkFailsByCount f' f'' g' g'' last → SinkFailsByCount f f'' g g'' last
-causes_then f f' f'' g g' g'' first last p q = record {
-  faults_later = omega arith;
-  growths_later = omega arith;
-  failed = λ h. rose_between f f' f'' f'' p.faults_later (q.failed h) (omega arith);
-  no_memory = λ h. rose_between g g' g'' g'' p.growths_later (q.no_memory h) (omega arith);
+pub causes_then : {T U : Type 0} (old mid new : SinkTold) (first : Result T SinkFail) (last : Result U SinkFail)
+    → SinkFailsByCount old mid first → SinkFailsByCount mid new last → SinkFailsByCount old new last
+causes_then old mid new first last p q = record {
+  faults_later = omega (arith, p.faults_later, q.faults_later);
+  growths_later = omega (arith, p.growths_later, q.growths_later);
+  failed = λ h. rose_between old.faults mid.faults new.faults new.faults p.faults_later (q.failed h) (omega arith);
+  no_memory = λ h. rose_between old.refused_growths mid.refused_growths new.refused_growths new.refused_growths p.growths_later (q.no_memory h) (omega arith);
+  faultless = λ h.
+      let first_stays = p.faultless h in
+      let last_stays = q.faultless first_stays.0 in
+      (last_stays.0, last_stays.1 ∙ first_stays.1);
 }
 
 -- a failure is the same whatever an answer would have been
@@ -48,84 +52,90 @@ prefix_past (x ∷ a) b k = let r = prefix_past a b k in (suc r.0, ap (λ l. x �
 -- ---- writing nothing, one piece, two pieces
 
 -- writing nothing
-pub puts_nothing : (old : Option (List ℕ)) (faults growths : ℕ) → Puts old old faults faults growths growths [] (Ok tt)
-puts_nothing old faults growths = record {
-  ok = Appends-nil old;
+pub puts_nothing : (old : SinkTold) → Puts old old [] (Ok tt)
+puts_nothing old = record {
+  ok = Appends-nil old.written;
   err = tt;
-  cause = record { faults_later = omega arith; growths_later = omega arith; failed = λ h. cc; no_memory = λ h. cc };
+  cause = record { faults_later = omega arith; growths_later = omega arith; failed = λ h. cc; no_memory = λ h. cc; faultless = λ h. (h, refl) };
 }
 
 -- a write that took so many bytes
-pub puts_taken : (old new : Option (List ℕ)) (f f' g g' : ℕ) (bytes : List ℕ) (count : ℕ)
-    → Appends old new (take count bytes) → SinkFailsByCount {T = ℕ} f f' g g' (Ok count) → Puts old new f f' g g' (take count bytes) (Ok tt)
-puts_taken old new f f' g g' bytes count p q = record {
+pub puts_taken : (old new : SinkTold) (bytes : List ℕ) (count : ℕ)
+    → Appends old.written new.written (take count bytes) → SinkFailsByCount {T = ℕ} old new (Ok count) → Puts old new (take count bytes) (Ok tt)
+puts_taken old new bytes count p q = record {
   ok = p;
   err = tt;
-  cause = record { faults_later = q.faults_later; growths_later = q.growths_later; failed = λ h. cc; no_memory = λ h. cc };
+  cause = record { faults_later = q.faults_later; growths_later = q.growths_later; failed = λ h. cc; no_memory = λ h. cc; faultless = q.faultless };
 }
 
 -- a write that failed
-pub puts_refused : (old new : Option (List ℕ)) (f f' g g' : ℕ) (bytes : List ℕ) (fail : SinkFail)
-    → Keeps old new → SinkFailsByCount {T = ℕ} f f' g g' (Err fail) → Puts old new f f' g g' bytes (Err fail)
-puts_refused old new f f' g g' bytes fail p q = record {
+pub puts_refused : (old new : SinkTold) (bytes : List ℕ) (fail : SinkFail)
+    → Keeps old.written new.written → SinkFailsByCount {T = ℕ} old new (Err fail) → Puts old new bytes (Err fail)
+puts_refused old new bytes fail p q = record {
   ok = tt;
-  err = (0, Appends-from_keeps old new p);
-  cause = record { faults_later = q.faults_later; growths_later = q.growths_later; failed = λ h. q.failed (other_value fail Failed h); no_memory = λ h. q.no_memory (other_value fail NoMemory h) };
+  err = (0, Appends-from_keeps old.written new.written p);
+  cause = record {
+    faults_later = q.faults_later;
+    growths_later = q.growths_later;
+    failed = λ h. q.failed (other_value fail Failed h);
+    no_memory = λ h. q.no_memory (other_value fail NoMemory h);
+    faultless = q.faultless;
+  };
 }
 
 -- writing some bytes and then others is writing both
-both : (old mid new : Option (List ℕ)) (f f' f'' g g' g'' : ℕ) (a b : List ℕ) (result : Result (Unit {0}) SinkFail)
-    → Puts old mid f f' g g' a (Ok tt) → Puts mid new f' f'' g' g'' b result → Puts old new f f'' g g'' (a ++ b) result
-both old mid new f f' f'' g g' g'' a b (Ok u) p q = record {
-  ok = Appends-trans old mid new a b p.ok q.ok;
+both : (old mid new : SinkTold) (a b : List ℕ) (result : Result (Unit {0}) SinkFail)
+    → Puts old mid a (Ok tt) → Puts mid new b result → Puts old new (a ++ b) result
+both old mid new a b (Ok u) p q = record {
+  ok = Appends-trans old.written mid.written new.written a b p.ok q.ok;
   err = tt;
-  cause = causes_then f f' f'' g g' g'' (Ok tt) (Ok u) p.cause q.cause;
+  cause = causes_then old mid new (Ok tt) (Ok u) p.cause q.cause;
 }
-both old mid new f f' f'' g g' g'' a b (Err fail) p q =
+both old mid new a b (Err fail) p q =
     let r = prefix_past a b q.err.0 in
     record {
       ok = tt;
-      err = (r.0, subst (λ l. Appends old new l) (sym r.1) (Appends-trans old mid new a (take q.err.0 b) p.ok q.err.1));
-      cause = causes_then f f' f'' g g' g'' (Ok tt) (Err fail) p.cause q.cause;
+      err = (r.0, subst (λ l. Appends old.written new.written l) (sym r.1) (Appends-trans old.written mid.written new.written a (take q.err.0 b) p.ok q.err.1));
+      cause = causes_then old mid new (Ok tt) (Err fail) p.cause q.cause;
     }
 
-pub puts_then : {old mid new : Option (List ℕ)} {f f' f'' g g' g'' : ℕ} {a b : List ℕ} {result : Result (Unit {0}) SinkFail}
-    → Puts old mid f f' g g' a (Ok tt) → Puts mid new f' f'' g' g'' b result → Puts old new f f'' g g'' (a ++ b) result
-puts_then p q = both _ _ _ _ _ _ _ _ _ _ _ _ p q
+pub puts_then : {old mid new : SinkTold} {a b : List ℕ} {result : Result (Unit {0}) SinkFail}
+    → Puts old mid a (Ok tt) → Puts mid new b result → Puts old new (a ++ b) result
+puts_then p q = both _ _ _ _ _ _ p q
 
 -- what fails at some bytes fails so at these and others
-stops : (old new : Option (List ℕ)) (f f' g g' : ℕ) (a b : List ℕ) (fail : SinkFail)
-    → Puts old new f f' g g' a (Err fail) → Puts old new f f' g g' (a ++ b) (Err fail)
-stops old new f f' g g' a b fail p =
+stops : (old new : SinkTold) (a b : List ℕ) (fail : SinkFail)
+    → Puts old new a (Err fail) → Puts old new (a ++ b) (Err fail)
+stops old new a b fail p =
     let r = prefix_of a b p.err.0 in
-    record { ok = tt; err = (r.0, subst (λ l. Appends old new l) (sym r.1) p.err.1); cause = p.cause }
+    record { ok = tt; err = (r.0, subst (λ l. Appends old.written new.written l) (sym r.1) p.err.1); cause = p.cause }
 
-pub puts_stops : {old new : Option (List ℕ)} {f f' g g' : ℕ} {a : List ℕ} {fail : SinkFail} (b : List ℕ)
-    → Puts old new f f' g g' a (Err fail) → Puts old new f f' g g' (a ++ b) (Err fail)
-puts_stops b p = stops _ _ _ _ _ _ _ b _ p
+pub puts_stops : {old new : SinkTold} {a : List ℕ} {fail : SinkFail} (b : List ℕ)
+    → Puts old new a (Err fail) → Puts old new (a ++ b) (Err fail)
+puts_stops b p = stops _ _ _ b _ p
 
 -- ---- a loop over what is left
 
 -- some bytes are written and others are left, and so they are after one more write
-pub puts_more : (old mid new : Option (List ℕ)) (f f' f'' g g' g'' : ℕ) (bytes rest : List ℕ) (count : ℕ)
-    → (done : List ℕ) × (bytes ≡ done ++ rest) × Puts old mid f f' g g' done (Ok tt)
-    → Appends mid new (take count rest) → SinkFailsByCount {T = ℕ} f' f'' g' g'' (Ok count)
-    → (done : List ℕ) × (bytes ≡ done ++ take (length rest - count) (drop count rest)) × Puts old new f f'' g g'' done (Ok tt)
-puts_more old mid new f f' f'' g g' g'' bytes rest count h p q = (
+pub puts_more : (old mid new : SinkTold) (bytes rest : List ℕ) (count : ℕ)
+    → (done : List ℕ) × (bytes ≡ done ++ rest) × Puts old mid done (Ok tt)
+    → Appends mid.written new.written (take count rest) → SinkFailsByCount {T = ℕ} mid new (Ok count)
+    → (done : List ℕ) × (bytes ≡ done ++ take (length rest - count) (drop count rest)) × Puts old new done (Ok tt)
+puts_more old mid new bytes rest count h p q = (
   h.0 ++ take count rest,
   h.1 ∙ ap (λ l. h.0 ++ l) (sym (take-append-drop count rest)) ∙ sym (append_assoc h.0 (take count rest) (drop count rest))
       ∙ ap (λ l. (h.0 ++ take count rest) ++ l) (sym (take_rest rest count)),
-  puts_then h.2 (puts_taken mid new f' f'' g' g'' rest count p q),
+  puts_then h.2 (puts_taken mid new rest count p q),
 )
 
 -- some bytes are written and others are left, and then a write failed
-pub puts_fails : (old mid new : Option (List ℕ)) (f f' f'' g g' g'' : ℕ) (bytes rest : List ℕ) (fail : SinkFail)
-    → (done : List ℕ) × (bytes ≡ done ++ rest) × Puts old mid f f' g g' done (Ok tt)
-    → Keeps mid new → SinkFailsByCount {T = ℕ} f' f'' g' g'' (Err fail)
-    → Puts old new f f'' g g'' bytes (Err fail)
-puts_fails old mid new f f' f'' g g' g'' bytes rest fail h p q =
-    subst (λ l. Puts old new f f'' g g'' l (Err fail)) (sym h.1)
-    (puts_then h.2 (puts_refused mid new f' f'' g' g'' rest fail p q))
+pub puts_fails : (old mid new : SinkTold) (bytes rest : List ℕ) (fail : SinkFail)
+    → (done : List ℕ) × (bytes ≡ done ++ rest) × Puts old mid done (Ok tt)
+    → Keeps mid.written new.written → SinkFailsByCount {T = ℕ} mid new (Err fail)
+    → Puts old new bytes (Err fail)
+puts_fails old mid new bytes rest fail h p q =
+    subst (λ l. Puts old new l (Err fail)) (sym h.1)
+    (puts_then h.2 (puts_refused mid new rest fail p q))
 
 -- ---- a loop over pieces
 
@@ -141,28 +151,28 @@ pieces_split (p ∷ pieces) (suc i) d h =
 pieces_split [] i d h = absurd (omega arith)
 
 -- some pieces are written, and then one failed
-pub pieces_fail : (old mid new : Option (List ℕ)) (f f' f'' g g' g'' : ℕ) (pieces : List (Bor (List ℕ))) (i : ℕ) (d : Bor (List ℕ)) (fail : SinkFail)
+pub pieces_fail : (old mid new : SinkTold) (pieces : List (Bor (List ℕ))) (i : ℕ) (d : Bor (List ℕ)) (fail : SinkFail)
     → i < length pieces
-    → Puts old mid f f' g g' (flat_map (λ piece. piece.now) (take i pieces)) (Ok tt)
-    → Puts mid new f' f'' g' g'' (get_or pieces i d).now (Err fail)
-    → Puts old new f f'' g g'' (flat_map (λ piece. piece.now) pieces) (Err fail)
-pieces_fail old mid new f f' f'' g g' g'' pieces i d fail h p q =
-    subst (λ l. Puts old new f f'' g g'' l (Err fail)) (sym (pieces_split pieces i d h))
+    → Puts old mid (flat_map (λ piece. piece.now) (take i pieces)) (Ok tt)
+    → Puts mid new (get_or pieces i d).now (Err fail)
+    → Puts old new (flat_map (λ piece. piece.now) pieces) (Err fail)
+pieces_fail old mid new pieces i d fail h p q =
+    subst (λ l. Puts old new l (Err fail)) (sym (pieces_split pieces i d h))
     (puts_stops _ (puts_then p q))
 
 -- ---- what is told
 
 -- a line that was written or not is told, and whole unless a count rose
-tells : (old new : Option (List ℕ)) (f f' g g' : ℕ) (line : List ℕ) (result : Result (Unit {0}) SinkFail)
-    → Puts old new f f' g g' line result → Tells old new f f' g g' line
-tells old new f f' g g' line (Ok u) p = record {
+tells : (old new : SinkTold) (line : List ℕ) (result : Result (Unit {0}) SinkFail)
+    → Puts old new line result → Tells old new line
+tells old new line (Ok u) p = record {
   count = length line;
-  appended = subst (λ l. Appends old new l) (sym (take-length line)) p.ok;
+  appended = subst (λ l. Appends old.written new.written l) (sym (take-length line)) p.ok;
   whole = λ h. absurd (omega arith);
 }
-tells old new f f' g g' line (Err Failed) p = record { count = p.err.0; appended = p.err.1; whole = λ h. inl (p.cause.failed refl) }
-tells old new f f' g g' line (Err NoMemory) p = record { count = p.err.0; appended = p.err.1; whole = λ h. inr (p.cause.no_memory refl) }
+tells old new line (Err Failed) p = record { count = p.err.0; appended = p.err.1; whole = λ h. inl (p.cause.failed refl) }
+tells old new line (Err NoMemory) p = record { count = p.err.0; appended = p.err.1; whole = λ h. inr (p.cause.no_memory refl) }
 
-pub puts_tells : {old new : Option (List ℕ)} {f f' g g' : ℕ} {line : List ℕ} {result : Result (Unit {0}) SinkFail}
-    → Puts old new f f' g g' line result → Tells old new f f' g g' line
-puts_tells p = tells _ _ _ _ _ _ _ _ p
+pub puts_tells : {old new : SinkTold} {line : List ℕ} {result : Result (Unit {0}) SinkFail}
+    → Puts old new line result → Tells old new line
+puts_tells p = tells _ _ _ _ p

@@ -1,6 +1,9 @@
 -- A shelf in memory, and what a take and a put leave of it.
-use Rattle.std.specs.Prelude.{ℕ, List, [], ◌∷◌, ◌++◌, Result, Ok, Err}
+use Rattle.std.specs.Prelude.{ℕ, List, [], ◌∷◌, ◌++◌, Some, Result, Ok, Err}
 use Rattle.om_io.specs.Counts.{one_more}
+use Rattle.om_io.specs.Files.{held_in, times}
+use Rattle.om_io.specs.MemSink.{none_fails}
+use Rattle.om_io.specs.Shelf.{ShelfTold}
 use Rattle.om_io.specs.declared.shelf.Taken.{Taken}
 use Rattle.om_io.specs.declared.shelf.ShelfFail.{ShelfFail}
 use Rattle.om_io.specs.declared.shelf.ShelfFail.TheVariants.{NoMemory, Failed}
@@ -13,6 +16,15 @@ pub record ShelfState : Type 0 where
   pub calls : ℕ
   pub failed_takes : List (List ℕ)
   pub failed_puts : List (List ℕ)
+
+-- what the shelf tells: all of it
+abbrev pub told_by : ShelfState → ShelfTold
+told_by state = record {
+  files = Some (held_in state.files);
+  failed_takes = times state.failed_takes;
+  failed_puts = times state.failed_puts;
+  is_faultless = none_fails state.failing;
+}
 
 -- the state after one more call
 abbrev pub called : ShelfState → ShelfState

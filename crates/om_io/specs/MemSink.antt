@@ -1,6 +1,7 @@
 -- A sink in memory, and what a write leaves of it.
-use Rattle.std.specs.Prelude.{ℕ, List, ◌++◌, take, Result, Ok, Err}
+use Rattle.std.specs.Prelude.{ℕ, Bool, true, false, List, [], ◌∷◌, ◌++◌, take, Some, Result, Ok, Err}
 use Rattle.om_io.specs.Counts.{one_more}
+use Rattle.om_io.specs.Sink.{SinkTold}
 use Rattle.om_io.specs.declared.sink.SinkFail.{SinkFail}
 use Rattle.om_io.specs.declared.sink.SinkFail.TheVariants.{NoMemory, Failed}
 
@@ -13,6 +14,20 @@ pub record SinkState : Type 0 where
   pub calls : ℕ
   pub faults : ℕ
   pub refused_growths : ℕ
+
+-- no call is to fail
+abbrev pub none_fails : List ℕ → Bool
+none_fails [] = true
+none_fails (call ∷ calls) = false
+
+-- what the sink tells: all of it
+abbrev pub told_by : SinkState → SinkTold
+told_by state = record {
+  written = Some state.written;
+  faults = state.faults;
+  refused_growths = state.refused_growths;
+  is_faultless = none_fails state.failing;
+}
 
 -- the state after one more call
 abbrev pub called : SinkState → SinkState

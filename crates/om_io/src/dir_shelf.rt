@@ -1,6 +1,6 @@
 //! The files of a real folder.
 
-ghost use Rattle.std.specs.Prelude.{◌≡◌, ◌<◌, ◌≤◌, ◌++◌, ℕ, Some, None, IfOk, IfSome, OnOk, codes, decimal, string_bytes};
+ghost use Rattle.std.specs.Prelude.{◌≡◌, ◌<◌, ◌≤◌, ◌++◌, ℕ, Some, None, false, IfOk, IfSome, OnOk, codes, decimal, string_bytes};
 ghost use Rattle.std.specs.Io.KnownBytes.{Appends};
 ghost use Rattle.std.specs.IoError.{error_kind};
 ghost use Rattle.std.specs.Path.{path_buf_bytes, path_bytes, path_join};
@@ -155,11 +155,7 @@ fn answered<T>(outcome: io::Result<T>, failures: &mut u64) -> Result<T, ShelfFai
 }
 
 impl<'a, R: rt::Files> Shelf for DirShelf<'a, R> {
-    ghost told = { λ _. None };
-
-    ghost failed_takes = { λ it _. it.failed_takes };
-
-    ghost failed_puts = { λ it _. it.failed_puts };
+    ghost told = { λ it. record { files = None; failed_takes = λ _. it.failed_takes; failed_puts = λ _. it.failed_puts; is_faultless = false } };
 
     /// Reads one byte more than `most`, at most.
     fn take(&mut self, alloc: Global, name: &str, most: u64) -> Result<Taken, ShelfFail>

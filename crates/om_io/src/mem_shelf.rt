@@ -3,8 +3,9 @@
 ghost use Rattle.std.specs.Prelude.{◌≡◌, ◌≢◌, ℕ, List, [], ◌∷◌, ◌++◌, Some, None, ◌⊎◌, IfOk, OnOk, OnErr, IsErr, IsErrOf, IsTrue, ◌↔◌, Contains, option_map};
 ghost use Rattle.om_io.specs.Counts.{one_more};
 ghost use Rattle.om_io.specs.Files.{held_in, times};
-ghost use Rattle.om_io.specs.Shelf.{FitsIn, IsTakenOf, FailsByCount, Holds, NoneFalls};
-ghost use Rattle.om_io.specs.MemShelf.{called, after_take, after_put};
+ghost use Rattle.om_io.specs.Shelf.{FailsByCount, FitsIn, Holds, IsHeld, IsTakenOf, NoneFalls, StaysFaultless};
+ghost use Rattle.om_io.specs.MemSink.{none_fails};
+ghost use Rattle.om_io.specs.MemShelf.{called, after_take, after_put, told_by};
 
 use crate::{Calls, Files, Shelf, ShelfFail, Taken};
 use om_base::{Bytes, NoMemory, Text};
@@ -24,6 +25,7 @@ pub struct MemShelf {
 
 // Clauses see all of it.
 impl Model for MemShelf {
+    ghost use Rattle.om_io.specs.MemSink.{none_fails};
     ghost use Rattle.om_io.specs.MemShelf.{ShelfState};
 
     ghost Value = { ShelfState };
@@ -84,11 +86,7 @@ impl MemShelf {
 }
 
 impl Shelf for MemShelf {
-    ghost told = { λ it. Some (held_in it.files) };
-
-    ghost failed_takes = { λ it. times it.failed_takes };
-
-    ghost failed_puts = { λ it. times it.failed_puts };
+    ghost told = { told_by };
 
     /// A take that fails is counted, unless memory for that is wanting.
     fn take(&mut self, alloc: Global, name: &str, most: u64) -> Result<Taken, ShelfFail>
@@ -97,6 +95,8 @@ impl Shelf for MemShelf {
         ensures same { Some (held_in self.new.files) ≡ Some (held_in self.old.files) }
         ensures cause { FailsByCount (times self.old.failed_takes) (times self.new.failed_takes) name.now result }
         ensures puts { NoneFalls (times self.old.failed_puts) (times self.new.failed_puts) }
+        ensures faultless { IsTrue (none_fails self.old.failing) → IsHeld (Some (held_in self.old.files)) name.now
+            → StaysFaultless (told_by self.old) (told_by self.new) }
 
         // It fails at the calls that it was told to and at a name that isn't held, and nowhere else.
         ensures honest { IsErrOf result ShelfFail.Failed →
@@ -128,6 +128,7 @@ impl Shelf for MemShelf {
         ensures same { OnErr result (Some (held_in self.new.files) ≡ Some (held_in self.old.files)) }
         ensures cause { FailsByCount (times self.old.failed_puts) (times self.new.failed_puts) name.now result }
         ensures takes { NoneFalls (times self.old.failed_takes) (times self.new.failed_takes) }
+        ensures faultless { IsTrue (none_fails self.old.failing) → StaysFaultless (told_by self.old) (told_by self.new) }
 
         // It fails at the calls that it was told to, and nowhere else.
         ensures honest { IsErrOf result ShelfFail.Failed → Contains self.old.failing (one_more self.old.calls) }

@@ -4,7 +4,7 @@ ghost use Rattle.std.specs.Prelude.{◌≡◌, ◌≢◌, ◌≤◌, ◌↔◌, 
 ghost use Rattle.std.specs.Io.KnownBytes.{WriteAppends};
 ghost use Rattle.om_io.specs.Counts.{one_more};
 ghost use Rattle.om_io.specs.Sink.{IsCountOf, SinkFailsByCount};
-ghost use Rattle.om_io.specs.MemSink.{after_write};
+ghost use Rattle.om_io.specs.MemSink.{after_write, told_by};
 
 use crate::{Calls, Sink, SinkFail};
 use std::alloc::Global;
@@ -60,19 +60,14 @@ impl MemSink {
 }
 
 impl Sink for MemSink {
-    ghost written = { λ it. Some it.written };
-
-    ghost faults = { λ it. it.faults };
-
-    ghost refused_growths = { λ it. it.refused_growths };
+    ghost told = { told_by };
 
     fn write(&mut self, bytes: &[u8]) -> Result<usize, SinkFail>
         ensures bytes { WriteAppends (Some self.old.written) (Some self.new.written) result bytes.now }
         ensures count { IfOk result (IsCountOf bytes.now) }
         ensures empty { bytes.now ≡ [] → (result ≡ Ok 0) × (self.new.faults ≡ self.old.faults)
             × (self.new.refused_growths ≡ self.old.refused_growths) }
-        ensures cause { SinkFailsByCount self.old.faults self.new.faults
-            self.old.refused_growths self.new.refused_growths result }
+        ensures cause { SinkFailsByCount (told_by self.old) (told_by self.new) result }
 
         // It fails at the calls that it was told to, unless nothing is to be written, and nowhere else.
         ensures honest { IsErrOf result SinkFail.Failed ↔

@@ -1,7 +1,7 @@
 //! Where files come from and go to.
 
-ghost use Rattle.std.specs.Prelude.{◌≡◌, ℕ, List, Option, IfSome, IfOk, OnOk, IsErrOf, ◌⊎◌};
-ghost use Rattle.om_io.specs.Shelf.{FilesByName, FitsIn, IsTakenOf, FailsByCount, Holds, NoneFalls};
+ghost use Rattle.std.specs.Prelude.{◌≡◌, IfSome, IfOk, IsTrue, OnOk, IsErrOf, ◌⊎◌};
+ghost use Rattle.om_io.specs.Shelf.{FailsByCount, FitsIn, Holds, IsHeld, IsTakenOf, NoneFalls, ShelfTold, StaysFaultless};
 
 use om_base::{Bytes, NoMemory};
 use std::alloc::{AllocError, Global};
@@ -48,31 +48,30 @@ impl From<AllocError> for ShelfFail {
 
 /// Files by name.
 pub trait Shelf {
-    /// What each name holds, where the shelf tells it.
-    ghost told: { Self → Option FilesByName };
-
-    /// How often a file of each name could not be taken. No number falls.
-    ghost failed_takes: { Self → List ℕ → ℕ };
-
-    /// How often a file of each name could not be put. No number falls.
-    ghost failed_puts: { Self → List ℕ → ℕ };
+    /// What each name holds, where the shelf tells it, how often a file of each name could not be taken
+    /// and how often not be put, which never fall, and whether it is known that no call fails but a take
+    /// of what isn't held.
+    ghost told: { Self → ShelfTold };
 
     /// The file of that name, unless it has more than `most` bytes.
     fn take(&mut self, alloc: Global, name: &str, most: u64) -> Result<Taken, ShelfFail>
         ensures fits { IfOk result (FitsIn most) }
-        ensures taken { IfSome (told self.old) (λ files. IfOk result (IsTakenOf (files name.now) most)) }
-        ensures same { told self.new ≡ told self.old }
-        ensures cause { FailsByCount (failed_takes self.old) (failed_takes self.new) name.now result }
-        ensures puts { NoneFalls (failed_puts self.old) (failed_puts self.new) };
+        ensures taken { IfSome (told self.old).files (λ files. IfOk result (IsTakenOf (files name.now) most)) }
+        ensures same { (told self.new).files ≡ (told self.old).files }
+        ensures cause { FailsByCount (told self.old).failed_takes (told self.new).failed_takes name.now result }
+        ensures puts { NoneFalls (told self.old).failed_puts (told self.new).failed_puts }
+        ensures faultless { IsTrue (told self.old).is_faultless → IsHeld (told self.old).files name.now
+            → StaysFaultless (told self.old) (told self.new) };
 
     /// From here on the name holds these bytes, whatever it held.
     ///
     /// Where it fails nothing changes; where memory is wanting the name holds what it held, or the bytes.
     fn put(&mut self, alloc: Global, name: &str, bytes: &[u8]) -> Result<(), ShelfFail>
-        ensures put { OnOk result (IfSome (told self.old) (λ files. Holds files (told self.new) name.now bytes.now)) }
-        ensures failed { IsErrOf result ShelfFail.Failed → told self.new ≡ told self.old }
-        ensures no_memory { IfSome (told self.old) (λ files. IsErrOf result ShelfFail.NoMemory
-            → (told self.new ≡ told self.old) ⊎ Holds files (told self.new) name.now bytes.now) }
-        ensures cause { FailsByCount (failed_puts self.old) (failed_puts self.new) name.now result }
-        ensures takes { NoneFalls (failed_takes self.old) (failed_takes self.new) };
+        ensures put { OnOk result (IfSome (told self.old).files (λ files. Holds files (told self.new).files name.now bytes.now)) }
+        ensures failed { IsErrOf result ShelfFail.Failed → (told self.new).files ≡ (told self.old).files }
+        ensures no_memory { IfSome (told self.old).files (λ files. IsErrOf result ShelfFail.NoMemory
+            → ((told self.new).files ≡ (told self.old).files) ⊎ Holds files (told self.new).files name.now bytes.now) }
+        ensures cause { FailsByCount (told self.old).failed_puts (told self.new).failed_puts name.now result }
+        ensures takes { NoneFalls (told self.old).failed_takes (told self.new).failed_takes }
+        ensures faultless { IsTrue (told self.old).is_faultless → StaysFaultless (told self.old) (told self.new) };
 }

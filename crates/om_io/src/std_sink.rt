@@ -1,6 +1,6 @@
 //! A real output.
 
-ghost use Rattle.std.specs.Prelude.{◌≡◌, ◌<◌, ◌≤◌, [], None, Ok, IfOk, OnOk, OnErr, length, take};
+ghost use Rattle.std.specs.Prelude.{◌≡◌, ◌<◌, ◌≤◌, [], None, Ok, false, IfOk, OnOk, OnErr, length, take};
 ghost use Rattle.std.specs.Io.KnownBytes.{Appends};
 ghost use Rattle.om_io.specs.Counts.{one_more};
 ghost use Rattle.om_io.specs.Sink.{AppendsPrefix, IsCountOf, SinkFailsByCount};
@@ -44,17 +44,14 @@ fn write_through<W: Write>(out: &mut W, bytes: &[u8]) -> io::Result<usize>
 }
 
 impl<W: Write> Sink for StdSink<W> {
-    ghost written = { λ _. None };
-
-    ghost faults = { λ it. it.faults };
-
-    ghost refused_growths = { λ _. 0 };
+    ghost told = { λ it. record { written = None; faults = it.faults; refused_growths = 0; is_faultless = false } };
 
     /// A flush that fails is an error too. Memory is never wanting.
     fn write(&mut self, bytes: &[u8]) -> Result<usize, SinkFail>
         ensures count { IfOk result (IsCountOf bytes.now) }
         ensures empty { bytes.now ≡ [] → (result ≡ Ok 0) × (self.new ≡ self.old) }
-        ensures cause { SinkFailsByCount self.old.faults self.new.faults 0 0 result }
+        ensures cause { SinkFailsByCount (record { written = None; faults = self.old.faults; refused_growths = 0; is_faultless = false })
+            (record { written = None; faults = self.new.faults; refused_growths = 0; is_faultless = false }) result }
 
         // Each failure is counted once.
         ensures fault { OnErr result (self.new.faults ≡ one_more self.old.faults) }

@@ -8,8 +8,7 @@ use crate::{Sink, SinkFail};
 /// Writes all of these bytes. After a failure, which is that of its last write, the first of them are
 /// written.
 pub fn put_all<S: Sink>(sink: &mut S, bytes: &[u8]) -> Result<(), SinkFail>
-    ensures { Puts (S.written sink.old) (S.written sink.new) (S.faults sink.old) (S.faults sink.new)
-        (S.refused_growths sink.old) (S.refused_growths sink.new) bytes.now result }
+    ensures { Puts (S.told sink.old) (S.told sink.new) bytes.now result }
 {
     let mut rest = bytes;
     while !rest.is_empty() {
@@ -23,9 +22,7 @@ pub fn put_all<S: Sink>(sink: &mut S, bytes: &[u8]) -> Result<(), SinkFail>
 
 /// Writes all of these pieces, one after another, and stops at the first failure.
 pub fn put_pieces<S: Sink>(sink: &mut S, pieces: &[&[u8]]) -> Result<(), SinkFail>
-    ensures { Puts (S.written sink.old) (S.written sink.new) (S.faults sink.old) (S.faults sink.new)
-        (S.refused_growths sink.old) (S.refused_growths sink.new)
-        (flat_map (λ piece. piece.now) pieces.now) result }
+    ensures { Puts (S.told sink.old) (S.told sink.new) (flat_map (λ piece. piece.now) pieces.now) result }
 {
     for piece in pieces {
         match put_all(sink, piece) {

@@ -5,8 +5,7 @@ use Rattle.om_io.proofs.writing.put_all.Given as goal
 -- what is written so far, and what is left
 abbrev pub invariant-loop-rest : goal.invariant-loop-rest
 invariant-loop-rest g l = (done : List ℕ) × (l.bytes ≡ done ++ l.rest)
-    × Puts (g.S.Sink.written l.fn.sink) (g.S.Sink.written l.sink) (g.S.Sink.faults l.fn.sink) (g.S.Sink.faults l.sink)
-    (g.S.Sink.refused_growths l.fn.sink) (g.S.Sink.refused_growths l.sink) done (Ok tt)
+    × Puts (g.S.Sink.told l.fn.sink) (g.S.Sink.told l.sink) done (Ok tt)
 
 abbrev pub decreases-loop-rest : goal.decreases-loop-rest
 decreases-loop-rest g l = length l.rest

@@ -6,5 +6,4 @@ use Rattle.om_io.proofs.writing.put_pieces.Given as goal
 -- the pieces so far are written
 abbrev pub invariant-loop-piece : goal.invariant-loop-piece
 invariant-loop-piece g l =
-    Puts (g.S.Sink.written l.fn.sink) (g.S.Sink.written l.sink) (g.S.Sink.faults l.fn.sink) (g.S.Sink.faults l.sink)
-    (g.S.Sink.refused_growths l.fn.sink) (g.S.Sink.refused_growths l.sink) (flat_map (λ piece. piece.now) (take l.piece-index l.pieces)) (Ok tt)
+    Puts (g.S.Sink.told l.fn.sink) (g.S.Sink.told l.sink) (flat_map (λ piece. piece.now) (take l.piece-index l.pieces)) (Ok tt)

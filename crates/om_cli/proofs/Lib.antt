@@ -1,5 +1,0 @@
-pub mod EscapedLemmas
-pub mod RowsLemmas
-pub mod SomesLemmas
-pub mod NamedLemmas
-pub mod AnswerLemmas

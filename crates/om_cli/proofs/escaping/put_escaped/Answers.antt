@@ -1,5 +1,0 @@
-use Rattle.om_cli.proofs.EscapedLemmas.{escaped_fail}
-use Rattle.om_cli.proofs.escaping.put_escaped.Goals as goal
-
-pub returns-in-Err : goal.returns-in-Err
-returns-in-Err g c = escaped_fail _ _ _ _ _ _ _ _ _ _ _ _ _ c.loop-byte-test.true c.loop-byte.invariant c.in-Err.ensures

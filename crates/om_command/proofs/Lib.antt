@@ -1,0 +1,9 @@
+pub mod AnswerLemmas
+pub mod EffectLemmas
+pub mod EndsLemmas
+pub mod EscapedLemmas
+pub mod FilesLemmas
+pub mod NamedLemmas
+pub mod ReadLemmas
+pub mod RowsLemmas
+pub mod SomesLemmas
