@@ -37,7 +37,7 @@ pub struct Case {
     pub words: &'static [&'static str],
     /// The calls of the shelf that fail.
     pub failing: &'static [u64],
-    /// How many bytes the output takes at a write, and the calls at which it fails.
+    /// How many bytes the output takes at a write, one at least, and the calls at which it fails.
     pub out: (usize, &'static [u64]),
     /// The calls at which the sink of the line fails.
     pub err: &'static [u64],
@@ -93,7 +93,7 @@ fn files(alloc: Global) -> Result<Files, Fail> {
 /// Whether the top call leaves what the case expects.
 pub fn comes_true(alloc: Global, case: &Case) -> Result<bool, Fail> {
     let mut shelf = MemShelf::new(files(alloc)?, calls(alloc, case.failing)?);
-    let mut out = MemSink::new(alloc, case.out.0, calls(alloc, case.out.1)?);
+    let mut out = MemSink::new(alloc, case.out.0.max(1), calls(alloc, case.out.1)?);
     let mut err = MemSink::new(alloc, 100, calls(alloc, case.err)?);
     let words = words(alloc, case.words)?;
     let status = omni(alloc, words.as_slice(), &mut shelf, &mut out, &mut err);
