@@ -1,10 +1,10 @@
 -- The laws of line programs.
-use Rattle.std.proofs.Common.{◌≡◌, ℕ, zero, suc, ◌+◌, ◌*◌, ◌<◌, ◌≤◌, ◌+ℤ◌, pos, List, [], ◌∷◌, length, Option, Some, None, Ok, Err, refl, arith}
+use Rattle.std.proofs.Common.{◌≡◌, ℕ, zero, suc, ◌+◌, ◌*◌, ◌<◌, ◌≤◌, ◌+ℤ◌, pos, List, [], ◌∷◌, ◌++◌, length, Option, Some, None, Ok, Err, refl, arith, ap, ◌∙◌}
 use Rattle.std.specs.Prelude.{Result}
 use Rattle.std.proofs.lemmas.Nat.{div-mul-add, mod-mul-add}
 use Rattle.om_line.specs.Head.{Head}
 use Rattle.om_line.specs.Instructions.{broken_in, instruction_in, instructions_in}
-use Rattle.om_line.specs.Laws.{Fill}
+use Rattle.om_line.specs.Laws.{Fill, StandBefore}
 use Rattle.om_line.specs.Running.{advanced, after_special, grown}
 use Rattle.om_line.specs.declared.fields.Broken.{Broken}
 use Rattle.om_line.specs.declared.instruction.Instruction.{Instruction}
@@ -32,6 +32,14 @@ fills (suc most) head (byte ∷ bytes) le =
 
 pub all_fill : (head : Head) (program : List ℕ) → Fill head program (instructions_in head program) (broken_in head program)
 all_fill head program = fills (length program) head program (omega arith)
+
+pub same_instructions : (head : Head) (program end : List ℕ) (front : List Instruction) → StandBefore head program front end → instructions_in head program ≡ front ++ instructions_in head end
+same_instructions head program end [] same = ap (instructions_in head) same
+same_instructions head program end (x ∷ front) (behind, is, more) = instruction_first head program x behind is ∙ ap (λ xs. x ∷ xs) (same_instructions head behind end front more)
+
+pub same_broken : (head : Head) (program end : List ℕ) (front : List Instruction) → StandBefore head program front end → broken_in head program ≡ broken_in head end
+same_broken head program end [] same = ap (broken_in head) same
+same_broken head program end (x ∷ front) (behind, is, more) = broken_later head program x behind is ∙ same_broken head behind end front more
 
 pub special_is : (head : Head) (registers : Registers) (growth advance : ℕ) → growth < head.line_range
     → after_special head (growth + head.line_range * advance) registers ≡ grown (head.line_base +ℤ pos growth) (advanced head advance registers)

@@ -15,7 +15,7 @@ mod row;
 mod table;
 
 pub use fault::LineFault;
-pub use laws::{instructions_in_turn, special_opcodes};
+pub use laws::{common_end, instructions_in_turn, special_opcodes};
 pub use lines::Lines;
 pub use row::LineRow;
 pub use table::{LineTable, read_lines};
