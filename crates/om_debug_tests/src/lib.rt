@@ -1,6 +1,8 @@
-//! Tests of executables and their debugging information: the crates `om_elf`, `om_die`, `om_names`, `om_image` and `om_view`.
+//! Tests of executables and their debugging information: the crates `om_claims`, `om_elf`, `om_die`, `om_line`, `om_names`, `om_image` and `om_view`.
 #![tactic(auto)]
 
+#[cfg(test)]
+mod claims;
 #[cfg(test)]
 mod die;
 #[cfg(test)]
@@ -9,6 +11,8 @@ mod die_forms;
 mod elf;
 #[cfg(test)]
 mod image;
+#[cfg(test)]
+mod lines;
 #[cfg(test)]
 mod names;
 #[cfg(test)]

@@ -1,0 +1,4 @@
+pub mod PieceLemmas
+pub mod MergeLemmas
+pub mod BestLemmas
+pub mod LawLemmas

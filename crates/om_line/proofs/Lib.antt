@@ -1,0 +1,6 @@
+pub mod FieldLemmas
+pub mod ReaderLemmas
+pub mod ProgramLemmas
+pub mod RunLemmas
+pub mod RowLemmas
+pub mod LawLemmas

@@ -1,0 +1,9 @@
+pub mod Fields
+pub mod Head
+pub mod Heads
+pub mod Instructions
+pub mod Files
+pub mod Running
+pub mod Lines
+pub mod Claims
+pub mod Laws

@@ -1,0 +1,21 @@
+//! Reads the line tables of `.debug_line`, which tell where code comes from: DWARF 4, section 6.2.
+#![tactic(auto)]
+
+mod decoding;
+mod fault;
+mod fields;
+mod files;
+mod head;
+mod instruction;
+mod laws;
+mod lines;
+mod reading;
+mod registers;
+mod row;
+mod table;
+
+pub use fault::LineFault;
+pub use laws::{common_end, instructions_in_turn, special_opcodes};
+pub use lines::Lines;
+pub use row::LineRow;
+pub use table::{LineTable, read_lines};
