@@ -5,6 +5,7 @@ pub mod Command
 pub mod Delivered
 pub mod Effect
 pub mod Files
+pub mod InMemory
 pub mod Lines
 pub mod Named
 pub mod Prepared

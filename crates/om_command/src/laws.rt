@@ -1,12 +1,15 @@
 //! What the theorem of the program rests on beside its clause: the files and the text that it speaks of
 //! are read in one way, and so a command means one effect. No code is in it.
 
-ghost use Rattle.std.specs.Prelude.{◌≡◌, ◌<◌, ℕ, List, Result, slice_index};
+ghost use Rattle.std.specs.Prelude.{◌≡◌, ◌<◌, ℕ, List, Some, Result, slice_index};
 ghost use Rattle.om_command.specs.Command.{Means};
 ghost use Rattle.om_command.specs.Effect.{Effect};
 ghost use Rattle.om_command.specs.Readings.{IsDebugReading, IsLogReading, IsQueryReading, content_at};
+ghost use Rattle.om_command.specs.InMemory.{just_made};
 ghost use Rattle.om_command.specs.Requests.{Command};
+ghost use Rattle.om_command.specs.Result.{AreHeld, IsFaultless, IsFresh};
 ghost use Rattle.om_elf.specs.declared.elf.Elf.{Elf};
+ghost use Rattle.om_io.specs.Files.{held_in};
 ghost use Rattle.om_log.specs.declared.fault.LogFault.{LogFault};
 ghost use Rattle.om_log.specs.declared.log.Log.{Log};
 ghost use Rattle.om_names.specs.Information.{Information};
@@ -41,3 +44,10 @@ pub fn one_effect()
 {
     one_meaning();
 }
+
+/// A shelf and an output in memory that are just made, and of which no call is to fail, are known to be
+/// faultless over the files that they hold, and nothing has failed.
+pub fn nothing_fails_in_memory()
+    ensures { (files : List (List ℕ × List ℕ)) (most : ℕ) (names : List (List ℕ)) → AreHeld (Some (held_in files)) names
+        → IsFaultless names (just_made files most) × IsFresh (just_made files most) }
+{}
