@@ -1,4 +1,5 @@
 pub mod FieldLaws
+pub mod FirstLemmas
 pub mod LebLaws
 pub mod LebLemmas
 pub mod PlaceLemmas

@@ -1,3 +1,4 @@
+pub mod Appending
 pub mod Firsts
 pub mod Leb
 pub mod LebParts

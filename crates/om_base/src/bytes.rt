@@ -1,6 +1,7 @@
-//! The bytes of a file or a field, owned.
+//! Bytes that a value owns: those of a file, or a text that is built up piece by piece.
 
-ghost use Rattle.std.specs.Prelude.{◌≡◌, ◌++◌, IfOk, OnOk, OnErr};
+ghost use Rattle.std.specs.Prelude.{◌≡◌, replicate, IfOk, OnErr};
+ghost use Rattle.om_base.specs.Appending.{PutsBehind};
 
 use crate::NoMemory;
 use std::alloc::Global;
@@ -11,6 +12,9 @@ use std::marker::Model;
 pub struct Bytes {
     items: Vec<u8>,
 }
+
+/// Bytes in the order in which they are printed, in no fixed encoding.
+pub type Text = Bytes;
 
 // Clauses see the bytes, first to last.
 impl Model for Bytes {
@@ -39,10 +43,20 @@ impl Bytes {
 
     /// Appends `bytes`.
     pub fn add(&mut self, bytes: &[u8]) -> Result<(), NoMemory>
-        ensures ok { OnOk result (self.new ≡ self.old ++ bytes.now) }
+        ensures ok { PutsBehind result self.old bytes.now self.new }
         ensures err { OnErr result (self.new ≡ self.old) }
     {
         self.items.extend_from_slice(bytes)?;
+        Ok(())
+    }
+
+    /// Appends `byte` so many times.
+    pub fn fill(&mut self, byte: u8, count: usize) -> Result<(), NoMemory>
+        ensures ok { PutsBehind result self.old (replicate count byte) self.new }
+        ensures err { OnErr result (self.new ≡ self.old) }
+    {
+        let size = self.items.len().checked_add(count).ok_or(NoMemory)?;
+        self.items.resize(size, byte)?;
         Ok(())
     }
 

@@ -1,6 +1,7 @@
 //! A list of any type, which contracts see as a list.
 
-ghost use Rattle.std.specs.Prelude.{◌≡◌, [], ◌∷◌, ◌++◌, length, OnOk, OnErr};
+ghost use Rattle.std.specs.Prelude.{◌≡◌, [], ◌∷◌, length, OnErr};
+ghost use Rattle.om_base.specs.Appending.{PutsBehind};
 
 use crate::NoMemory;
 use std::alloc::Global;
@@ -69,7 +70,7 @@ impl<T> Items<T> {
 impl<T: Drop> Items<T> {
     /// Appends `item`, which is dropped where there is no memory for it.
     pub fn push(&mut self, item: T) -> Result<(), NoMemory>
-        ensures ok { OnOk result (self.new ≡ self.old ++ item ∷ []) }
+        ensures ok { PutsBehind result self.old (item ∷ []) self.new }
         ensures err { OnErr result (self.new ≡ self.old) }
     {
         self.items.push(item)?;

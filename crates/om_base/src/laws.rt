@@ -2,7 +2,7 @@
 
 ghost use Rattle.std.specs.Prelude.{drop, option_map, ◌≡◌, ◌<◌, ◌≤◌, ◌↔◌, ◌⊎◌, ℕ, ◌+◌, ◌∷◌, ◌++◌, [], List, All, Err, length, true};
 ghost use Rattle.om_base.specs.Leb.{IsSleb, IsUleb, from_place, sleb_of, uleb_of};
-ghost use Rattle.om_base.specs.Limits.{most_bytes};
+ghost use Rattle.om_base.specs.Limits.{most_bytes, page_size};
 ghost use Rattle.om_base.specs.Nul.{nul_from};
 ghost use Rattle.om_base.specs.Numbers.{number_at};
 ghost use Rattle.om_base.specs.Reading.{EachFrom, GoesOn, InTurn, IsNumber, IsReading, IsText, NoMore, first_then, number_of, text_of, with_rest};
@@ -10,7 +10,7 @@ ghost use Rattle.om_base.specs.Spans.{IsIn, shares};
 ghost use Rattle.om_base.specs.declared.numbers.Num.{Num};
 ghost use Rattle.om_base.specs.declared.span.Span.{Span};
 
-use crate::limits::MOST_BYTES;
+use crate::limits::{MOST_BYTES, PAGE_SIZE};
 
 /// What is read in front of some bytes is what stands there.
 pub fn read_what_stands_there()
@@ -58,7 +58,8 @@ pub fn spans_share_a_number()
     ensures { (a b : Span) → (shares a b ≡ true) ↔ ((n : ℕ) × IsIn a n × IsIn b n) }
 {}
 
-/// The code and the definitions have one limit of bytes.
+/// The code and the definitions have one limit of bytes, and one size of a page.
 pub fn one_limit()
-    ensures { MOST_BYTES ≡ most_bytes }
+    ensures bytes { MOST_BYTES ≡ most_bytes }
+    ensures page { PAGE_SIZE ≡ page_size }
 {}

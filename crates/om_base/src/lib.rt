@@ -7,6 +7,7 @@
 #![tactic(auto)]
 
 mod bytes;
+mod decimal;
 mod interval;
 mod items;
 mod laws;
@@ -18,9 +19,9 @@ mod nul;
 mod numbers;
 mod span;
 mod spans;
-mod text;
 
-pub use bytes::Bytes;
+pub use bytes::{Bytes, Text};
+pub use decimal::put_decimal;
 pub use interval::Interval;
 pub use items::Items;
 pub use laws::{
@@ -28,11 +29,10 @@ pub use laws::{
     short_where_bytes_break_off, spans_share_a_number,
 };
 pub use leb::{sleb, uleb};
-pub use limits::MOST_BYTES;
+pub use limits::{MOST_BYTES, PAGE_SIZE};
 pub use name::Name;
 pub use no_memory::NoMemory;
 pub use nul::cstr_at;
-pub use numbers::{Num, u8_at, u16_at, u32_at, u64_at};
+pub use numbers::{Num, half_at, u8_at, u16_at, u32_at, u64_at, word_at};
 pub use span::Span;
 pub use spans::overlap;
-pub use text::{Text, put_decimal};

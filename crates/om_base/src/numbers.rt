@@ -2,7 +2,7 @@
 
 ghost use Rattle.std.specs.Prelude.{◌≡◌, ok_or};
 ghost use Rattle.std.specs.Result.{result_map_both};
-ghost use Rattle.om_base.specs.Numbers.{number_at, bytes_at};
+ghost use Rattle.om_base.specs.Numbers.{bytes_at, half, number_at, word};
 
 use byteorder::{ByteOrder, LittleEndian};
 
@@ -58,4 +58,18 @@ pub fn u64_at(bytes: &[u8], at: usize) -> Result<u64, Num>
     ensures { result ≡ ok_or (number_at 8 bytes.now at) Num.Short }
 {
     Ok(LittleEndian::read_u64(field(bytes, at, 8)?))
+}
+
+/// The number of two bytes at `at`, 0 where the bytes end before.
+pub fn half_at(bytes: &[u8], at: usize) -> u16
+    ensures { result ≡ half bytes.now at }
+{
+    u16_at(bytes, at).unwrap_or(0)
+}
+
+/// The number of four bytes at `at`, 0 where the bytes end before.
+pub fn word_at(bytes: &[u8], at: usize) -> u32
+    ensures { result ≡ word bytes.now at }
+{
+    u32_at(bytes, at).unwrap_or(0)
 }

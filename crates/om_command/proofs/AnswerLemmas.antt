@@ -1,51 +1,48 @@
 -- What is answered, by the one way in which a log and a query are read.
-use Rattle.std.proofs.Common.{◌≡◌, ℕ, List, refl, sym, inl, inr, Ok, Err, None}
+use Rattle.std.proofs.Common.{◌≡◌, ℕ, List, refl, sym, ap, subst, inl, inr, Ok, Err, None}
 use Rattle.std.specs.Prelude.{Option, Result, ◌⊎◌}
 use Rattle.om_elf.specs.Executable.{elf_fault, elf_in}
 use Rattle.om_elf.specs.Gives.{Gives}
 use Rattle.om_elf.specs.declared.elf.Elf.{Elf}
 use Rattle.om_elf.specs.declared.fault.ElfFault.{ElfFault}
 use Rattle.om_elf.specs.declared.fault.ElfFault.TheVariants as elf
+use Rattle.om_log.specs.Faults.{IsFault}
+use Rattle.om_log.specs.Grammar.{IsLog}
 use Rattle.om_log.specs.declared.fault.LogFault.{LogFault}
 use Rattle.om_log.specs.declared.fault.LogFault.TheVariants as log
 use Rattle.om_log.specs.declared.log.Log.{Log}
+use Rattle.om_names.specs.Facts.{Facts}
 use Rattle.om_names.specs.Information.{Information}
+use Rattle.om_names.specs.Known.{Known, Knows, told_by}
+use Rattle.om_names.specs.Stages.{IsLawful, IsRefused as HasDebugFault}
 use Rattle.om_names.specs.declared.fault.NamesFault.{NamesFault}
 use Rattle.om_names.specs.declared.fault.NamesFault.TheVariants as names
-use Rattle.om_command.specs.Command.{judged, judged_log, question_of, recorded_run}
-use Rattle.om_command.specs.Readings.{Readings, IsReadAs}
+use Rattle.om_command.specs.Command.{judged, judged_log, recorded_run}
+use Rattle.om_command.specs.Readings.{Readings, IsDebugReading, IsLogReading}
 use Rattle.om_command.specs.Reads.{GivesLog, GivesText, end_by_debug, end_by_elf, end_by_log}
-use Rattle.om_command.specs.declared.asked.Question.{Question}
+use Rattle.om_type.specs.declared.typed.Typed.{Typed}
 use Rattle.om_command.specs.declared.ending.Ending.{Ending}
 
--- where a reader answered a fault other than want of memory, there is nothing to read but that
-pub only_fault : {A F : Type 0} (Is : A → Type 0) (Has : F → Type 0) (none fault : F) (read : Result A F)
-    → ((it : A) → Is it → (◌≡◌ {A = Result A F} (Err fault) (Ok it)) ⊎ (◌≡◌ {A = Result A F} (Err fault) (Err none)))
-    → ((f : F) → Has f → (◌≡◌ {A = Result A F} (Err fault) (Err f)) ⊎ (◌≡◌ {A = Result A F} (Err fault) (Err none)))
-    → IsReadAs Is Has read → (fault ≡ none) ⊎ (read ≡ Err fault)
-only_fault {A} {F} Is Has none fault (Ok it) reads faults is =
-    elim (reads it is) as (λ _. (fault ≡ none) ⊎ (◌≡◌ {A = Result A F} (Ok it) (Err fault))) [
-      | inl e ↦ cc
-      | inr e ↦ inl (cc)
-    ]
-only_fault {A} {F} Is Has none fault (Err f) reads faults is =
-    elim (faults f is) as (λ _. (fault ≡ none) ⊎ (◌≡◌ {A = Result A F} (Err f) (Err fault))) [
-      | inl e ↦ inr (sym e)
+-- where debugging information is refused, there is nothing to read but its fault
+pub known_fault : (elf : Elf) (fault : NamesFault) (read : Result Information NamesFault)
+    → ((info : Information) → IsLawful elf info → Unit {0} × (fault ≡ names.NoMemory))
+    → ((f : NamesFault) → HasDebugFault elf f → (◌≡◌ {A = Result Known NamesFault} (Err fault) (Err f)) ⊎ (◌≡◌ {A = Result Known NamesFault} (Err fault) (Err names.NoMemory)))
+    → IsDebugReading elf read → (fault ≡ names.NoMemory) ⊎ (read ≡ Err fault)
+known_fault elf fault (Ok info) reads faults is = inl ((reads info is).1)
+known_fault elf fault (Err f) reads faults is =
+    elim (faults f is) as (λ _. (fault ≡ names.NoMemory) ⊎ (◌≡◌ {A = Result Information NamesFault} (Err f) (Err fault))) [
+      | inl e ↦ let same : fault ≡ f = cc in inr (ap (λ g. Err g) (sym same))
       | inr e ↦ inl (cc)
     ]
 
--- where a reader answered a thing, there is nothing to read but that
-pub only_thing : {A F : Type 0} (Is : A → Type 0) (Has : F → Type 0) (none : F) (it : A) (read : Result A F)
-    → ((other : A) → Is other → (◌≡◌ {A = Result A F} (Ok it) (Ok other)) ⊎ (◌≡◌ {A = Result A F} (Ok it) (Err none)))
-    → ((f : F) → Has f → (◌≡◌ {A = Result A F} (Ok it) (Err f)) ⊎ (◌≡◌ {A = Result A F} (Ok it) (Err none)))
-    → IsReadAs Is Has read → read ≡ Ok it
-only_thing {A} {F} Is Has none it (Ok other) reads faults is =
-    elim (reads other is) as (λ _. ◌≡◌ {A = Result A F} (Ok other) (Ok it)) [
-      | inl e ↦ sym e
-      | inr e ↦ cc
-    ]
-only_thing {A} {F} Is Has none it (Err f) reads faults is =
-    elim (faults f is) as (λ _. ◌≡◌ {A = Result A F} (Err f) (Ok it)) [
+-- where debugging information is kept, it is that which there is to read
+pub known_reading : (elf : Elf) (known : Known) (read : Result Information NamesFault)
+    → ((info : Information) → IsLawful elf info → Knows info known × Unit {0})
+    → ((f : NamesFault) → HasDebugFault elf f → (◌≡◌ {A = Result Known NamesFault} (Ok known) (Err f)) ⊎ (◌≡◌ {A = Result Known NamesFault} (Ok known) (Err names.NoMemory)))
+    → IsDebugReading elf read → (info : Information) × (read ≡ Ok info) × Knows info known
+known_reading elf known (Ok info) reads faults is = (info, refl, (reads info is).0)
+known_reading elf known (Err fault) reads faults is =
+    elim (faults fault is) as (λ _. (info : Information) × (◌≡◌ {A = Result Information NamesFault} (Err fault) (Ok info)) × Knows info known) [
       | inl e ↦ cc
       | inr e ↦ cc
     ]
@@ -73,15 +70,32 @@ debug_refused exe fault read has (inl e) = absurd (cc)
 debug_refused exe fault read has (inr e) = rw (has, e) refl
 
 -- the answer where there is debugging information
-pub debug_given : (exe : List ℕ) (info : Information) (read : Readings) (result : Result (List ℕ) Ending)
-    → elf_fault exe ≡ None → read.debug ≡ Ok info
-    → GivesText (judged_log (elf_in exe) info read.log (question_of read.query)) result → GivesText (judged exe read) result
+pub debug_given : (exe : List ℕ) (known : Known) (read : Readings) (result : Result (List ℕ) Ending)
+    → elf_fault exe ≡ None → (info : Information) × (read.debug ≡ Ok info) × Knows info known
+    → GivesText (judged_log (elf_in exe) (told_by known) read.log read.query) result → GivesText (judged exe read) result
 unfolding judged
-debug_given exe info read result has e gives = rw (has, e) gives
+debug_given exe known read result has is gives =
+    rw (has, is.1) (subst (λ (facts : Facts). GivesText (judged_log (elf_in exe) facts read.log read.query) result) is.2 gives)
+
+-- where a log is refused, there is nothing to read but its fault
+pub known_log_fault : (file : List ℕ) (fault : LogFault) (read : Result Log LogFault)
+    → ((it : Log) → IsLog file it → (◌≡◌ {A = Result Log LogFault} (Err fault) (Ok it)) ⊎ (◌≡◌ {A = Result Log LogFault} (Err fault) (Err log.NoMemory)))
+    → ((f : LogFault) → IsFault file f → (◌≡◌ {A = Result Log LogFault} (Err fault) (Err f)) ⊎ (◌≡◌ {A = Result Log LogFault} (Err fault) (Err log.NoMemory)))
+    → IsLogReading file read → (fault ≡ log.NoMemory) ⊎ (read ≡ Err fault)
+known_log_fault file fault (Ok it) reads faults is =
+    elim (reads it is) as (λ _. (fault ≡ log.NoMemory) ⊎ (◌≡◌ {A = Result Log LogFault} (Ok it) (Err fault))) [
+      | inl e ↦ cc
+      | inr e ↦ inl (cc)
+    ]
+known_log_fault file fault (Err f) reads faults is =
+    elim (faults f is) as (λ _. (fault ≡ log.NoMemory) ⊎ (◌≡◌ {A = Result Log LogFault} (Err f) (Err fault))) [
+      | inl e ↦ let same : fault ≡ f = cc in inr (ap (λ g. Err g) (sym same))
+      | inr e ↦ inl (cc)
+    ]
 
 -- the answer where a log has a fault
-pub log_refused : (elf : Elf) (info : Information) (fault : LogFault) (read : Result Log LogFault) (question : Option Question)
-    → (fault ≡ log.NoMemory) ⊎ (read ≡ Err fault) → GivesText (judged_log elf info read question) (Err (end_by_log fault))
-log_refused elf info log.NoMemory read question way = tt
-log_refused elf info fault read question (inl e) = absurd (cc)
-log_refused elf info fault read question (inr e) = rw e refl
+pub log_refused : (elf : Elf) (facts : Facts) (fault : LogFault) (read : Result Log LogFault) (query : Option Typed)
+    → (fault ≡ log.NoMemory) ⊎ (read ≡ Err fault) → GivesText (judged_log elf facts read query) (Err (end_by_log fault))
+log_refused elf facts log.NoMemory read query way = tt
+log_refused elf facts fault read query (inl e) = absurd (cc)
+log_refused elf facts fault read query (inr e) = rw e refl

@@ -8,11 +8,10 @@ use Rattle.om_log.specs.declared.fault.LogFault.{LogFault}
 use Rattle.om_log.specs.declared.log.Log.{Log}
 use Rattle.om_names.specs.Information.{Information}
 use Rattle.om_names.specs.declared.fault.NamesFault.{NamesFault}
-use Rattle.om_parse.specs.declared.fault.ParseFault.{ParseFault}
-use Rattle.om_parse.specs.declared.tree.Query.{Query}
+use Rattle.om_type.specs.declared.typed.Typed.{Typed}
 use Rattle.om_command.specs.Command.{Means, effect_with, judged, judged_elf, recorded_run}
 use Rattle.om_command.specs.Effect.{Effect}
-use Rattle.om_command.specs.Readings.{AreReadings, IsDebugReading, IsLogReading, IsQueryReading, Readings, content_at, needs_of}
+use Rattle.om_command.specs.Readings.{AreReadings, IsDebugReading, IsLogReading, IsQueryReading, Readings, content_at, needs_of, variables}
 use Rattle.om_command.specs.Reads.{IsRefusal}
 use Rattle.om_command.specs.Requests.{Command, queries, records}
 use Rattle.om_command.specs.declared.ending.Ending.{Ending}
@@ -21,7 +20,7 @@ use Rattle.om_command.specs.declared.ending.Ending.{Ending}
 pub record OneWay : Type 0 where
   pub debug : (elf : Elf) (a b : Result Information NamesFault) → IsDebugReading elf a → IsDebugReading elf b → a ≡ b
   pub log : (file : List ℕ) (a b : Result Log LogFault) → IsLogReading file a → IsLogReading file b → a ≡ b
-  pub query : (text : List ℕ) (a b : Result Query ParseFault) → IsQueryReading text a → IsQueryReading text b → a ≡ b
+  pub query : (text : List ℕ) (a b : Option Typed) → IsQueryReading variables text a → IsQueryReading variables text b → a ≡ b
 
 -- readings that are the same, the debugging information where the executable has no fault, come to the same
 same_elf : (fault : Option ElfFault) (elf : Elf) (a b : Readings) → (fault ≡ None → a.debug ≡ b.debug) → a.log ≡ b.log → a.query ≡ b.query
@@ -54,7 +53,7 @@ one_effect_of one command contents a b bytes is too =
 pub query_refuses : (contents : List (List ℕ)) (sql exe log : List ℕ) (read : Readings) (ending : Ending)
     → exe ≡ content_at contents 0 → log ≡ content_at contents 1
     → ((i : ℕ) → slice_index exe i < 256) → ((i : ℕ) → slice_index log i < 256)
-    → ((r : Readings) → (elf_fault exe ≡ None → IsDebugReading (elf_in exe) r.debug) → IsLogReading log r.log → IsQueryReading sql r.query → IsRefusal (judged exe r) ending)
+    → ((r : Readings) → (elf_fault exe ≡ None → IsDebugReading (elf_in exe) r.debug) → IsLogReading log r.log → IsQueryReading variables sql r.query → IsRefusal (judged exe r) ending)
     → AreReadings (needs_of (queries sql)) contents read → IsRefusal (effect_with (queries sql) contents read) ending
 query_refuses contents sql exe log read ending first second exe_bytes log_bytes gives is =
     subst (λ it. IsRefusal (judged it read) ending) first

@@ -8,13 +8,12 @@ use Rattle.om_log.specs.declared.fault.LogFault.{LogFault}
 use Rattle.om_log.specs.declared.log.Log.{Log}
 use Rattle.om_names.specs.Information.{Information}
 use Rattle.om_names.specs.declared.fault.NamesFault.{NamesFault}
-use Rattle.om_parse.specs.declared.fault.ParseFault.{ParseFault}
-use Rattle.om_parse.specs.declared.tree.Query.{Query}
+use Rattle.om_type.specs.declared.typed.Typed.{Typed}
 use Rattle.om_command.specs.Command.{ComesTo, effect_with}
 use Rattle.om_command.specs.Effect.{Effect, exceeds, misses}
 use Rattle.om_command.specs.Files.{AreFound, AreSeen, File, IsSeen, Reaches, Seen, found, longer, missing, seen_of}
 use Rattle.om_command.specs.Prepared.{IsPrepared, Prepares}
-use Rattle.om_command.specs.Readings.{AreReadings, IsDebugReading, IsLogReading, IsQueryReading, IsLogRead, Readings, content_at, needs_of}
+use Rattle.om_command.specs.Readings.{AreReadings, IsDebugReading, IsLogReading, IsQueryReading, IsLogRead, Readings, content_at, needs_of, variables}
 use Rattle.om_command.specs.Reads.{AreMet, Gives, IsLonger, IsMet, StopsAt}
 use Rattle.om_command.specs.Requests.{Command, Request, queries, records}
 use Rattle.om_command.specs.declared.ending.Ending.{Ending}
@@ -27,7 +26,7 @@ use Rattle.om_command.specs.declared.outcome.Outcome.{Outcome}
 pub record AllRead : Type 0 where
   pub debug : (elf : Elf) → (read : Result Information NamesFault) × IsDebugReading elf read
   pub log : (file : List ℕ) → ((i : ℕ) → slice_index file i < 256) → (read : Result Log LogFault) × IsLogReading file read
-  pub query : (text : List ℕ) → (read : Result Query ParseFault) × IsQueryReading text read
+  pub query : (text : List ℕ) → (read : Option Typed) × IsQueryReading variables text read
 
 -- a list is one of bytes, or it isn't
 are_bytes : (file : List ℕ) → ((i : ℕ) → slice_index file i < 256) ⊎ (((i : ℕ) → slice_index file i < 256) → ⊥)

@@ -4,6 +4,6 @@ pub mod EndsLemmas
 pub mod EscapedLemmas
 pub mod FilesLemmas
 pub mod NamedLemmas
+pub mod QueryLemmas
 pub mod ReadLemmas
 pub mod RowsLemmas
-pub mod SomesLemmas

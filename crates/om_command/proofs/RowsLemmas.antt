@@ -1,8 +1,8 @@
 -- A replay that looks at each state, step by step.
-use Rattle.std.proofs.Common.{◌≡◌, ℕ, zero, suc, ◌+◌, ◌<◌, ◌≤◌, List, [], ◌∷◌, ◌++◌, length, map, filter, Bool, true, false, nat_lt, nat_eq, refl, sym, ap, subst, ◌∙◌, arith, add-one, if◌then◌else◌, Ok, Err, Some, None}
+use Rattle.std.proofs.Common.{◌≡◌, ℕ, zero, suc, ◌+◌, ◌<◌, ◌≤◌, List, [], ◌∷◌, ◌++◌, length, map, filter, get_or, take, Bool, true, false, nat_lt, nat_eq, refl, sym, ap, subst, ◌∙◌, arith, add-one, if◌then◌else◌, Ok, Err, Some, None}
 use Rattle.std.specs.Prelude.{Option, Result}
 use Rattle.std.specs.Option.{option_or}
-use Rattle.std.proofs.lemmas.List.{length-append, length-map, map-append}
+use Rattle.std.proofs.lemmas.List.{length-append, length-map, map-append, map_more}
 use Rattle.std.proofs.lemmas.List.Elements.{filter-append}
 use Rattle.std.proofs.lemmas.Bool.Decides.{nat_tests}
 use Rattle.om_eval.specs.Row.{Row}
@@ -22,20 +22,21 @@ use Rattle.om_step.specs.Step.{outcome}
 use Rattle.om_step.specs.declared.outcome.Touched.{Touched}
 use Rattle.om_run.specs.declared.departure.Halt.{Halt}
 use Rattle.om_step.specs.State.{State}
-use Rattle.om_command.specs.Answer.{answer_rows, cells_of, is_kept, kept_of, rows_from}
-use Rattle.om_names.specs.Information.{Information}
+use Rattle.om_command.specs.Answer.{answer_rows, cell_of, cells_of, is_kept, kept_of, rows_from}
+use Rattle.om_names.specs.Facts.{Facts}
 use Rattle.om_view.specs.Row.{row_of}
-use Rattle.om_command.specs.declared.asked.Question.{Question}
+use Rattle.om_eval.specs.declared.cond.Cond.{Cond}
+use Rattle.om_type.specs.declared.typed.Output.{Output}
 
 -- ---- the rows
 
 -- the rows of some states and of those after them
-rows_from-append : (info : Information) (step : ℕ) (states later : List State) → rows_from info step (states ++ later) ≡ rows_from info step states ++ rows_from info (step + length states) later
-rows_from-append info step [] later = ap (λ (n : ℕ). rows_from info n later) (let none : step ≡ step + 0 = omega arith in none)
-rows_from-append info step (state ∷ states) later =
+rows_from-append : (facts : Facts) (step : ℕ) (states later : List State) → rows_from facts step (states ++ later) ≡ rows_from facts step states ++ rows_from facts (step + length states) later
+rows_from-append facts step [] later = ap (λ (n : ℕ). rows_from facts n later) (let none : step ≡ step + 0 = omega arith in none)
+rows_from-append facts step (state ∷ states) later =
     let more : step + 1 + length states ≡ step + suc (length states) = omega arith in
-    ap (λ (rows : List Row). row_of info state step ∷ rows) (rows_from-append info (step + 1) states later)
-    ∙ ap (λ (n : ℕ). row_of info state step ∷ (rows_from info (step + 1) states ++ rows_from info n later)) more
+    ap (λ (rows : List Row). row_of facts state step ∷ rows) (rows_from-append facts (step + 1) states later)
+    ∙ ap (λ (n : ℕ). row_of facts state step ∷ (rows_from facts (step + 1) states ++ rows_from facts n later)) more
 
 -- there are n numbers below n
 length-below : (n : ℕ) → length (below n) ≡ n
@@ -43,29 +44,37 @@ length-below zero = refl
 length-below (suc n) = let less = length-below n in omega (arith, length-append (below n) (n ∷ []))
 
 -- the rows before one step more
-rows_before-next : (info : Information) (entries : List Entry) (first : State) (i : ℕ)
-    → rows_before info entries first (i + 1) ≡ rows_before info entries first i ++ row_at info entries first i ∷ []
-rows_before-next info entries first i =
+rows_before-next : (facts : Facts) (entries : List Entry) (first : State) (i : ℕ)
+    → rows_before facts entries first (i + 1) ≡ rows_before facts entries first i ++ row_at facts entries first i ∷ []
+rows_before-next facts entries first i =
     let count : 0 + length (map (state_at entries first) (below i)) ≡ i = omega (arith, length-map (below i) (state_at entries first), length-below i) in
     rw (add-one, map-append (state_at entries first) (below i) (i ∷ []))
-    (rows_from-append info 0 (map (state_at entries first) (below i)) (state_at entries first i ∷ [])
-    ∙ ap (λ (n : ℕ). rows_before info entries first i ++ row_of info (state_at entries first i) n ∷ []) count)
+    (rows_from-append facts 0 (map (state_at entries first) (below i)) (state_at entries first i ∷ [])
+    ∙ ap (λ (n : ℕ). rows_before facts entries first i ++ row_of facts (state_at entries first i) n ∷ []) count)
 
 -- the cells of the one row, if a test holds
-cells_if : (b : Bool) (question : Question) (row : Row)
-    → map (cells_of question) (if b then row ∷ [] else []) ≡ (if b then cells_of question row ∷ [] else [])
-cells_if true question row = refl
-cells_if false question row = refl
+cells_if : (b : Bool) (outputs : List Output) (row : Row)
+    → map (cells_of outputs) (if b then row ∷ [] else []) ≡ (if b then cells_of outputs row ∷ [] else [])
+cells_if true outputs row = refl
+cells_if false outputs row = refl
 
 -- what is kept of the rows before one step more: what is kept so far, and that row where the condition is true
-pub kept_of-next : (info : Information) (entries : List Entry) (first : State) (question : Question) (i : ℕ)
-    → kept_of question (rows_before info entries first (i + 1))
-    ≡ kept_of question (rows_before info entries first i) ++ noted question (row_at info entries first i)
-kept_of-next info entries first question i =
-    let rows = rows_before info entries first i in
-    let row = row_at info entries first i in
-    rw (rows_before-next info entries first i, filter-append (is_kept question) rows (row ∷ []), map-append (cells_of question) (filter (is_kept question) rows) (filter (is_kept question) (row ∷ [])))
-    (ap (λ (cells : List (List Owned)). kept_of question rows ++ cells) (cells_if (is_kept question row) question row))
+pub kept_of-next : (facts : Facts) (entries : List Entry) (first : State) (condition : Cond) (outputs : List Output) (i : ℕ)
+    → kept_of condition outputs (rows_before facts entries first (i + 1))
+    ≡ kept_of condition outputs (rows_before facts entries first i) ++ noted condition outputs (row_at facts entries first i)
+kept_of-next facts entries first condition outputs i =
+    let rows = rows_before facts entries first i in
+    let row = row_at facts entries first i in
+    rw (rows_before-next facts entries first i, filter-append (is_kept condition) rows (row ∷ []), map-append (cells_of outputs) (filter (is_kept condition) rows) (filter (is_kept condition) (row ∷ [])))
+    (ap (λ (cells : List (List Owned)). kept_of condition outputs rows ++ cells) (cells_if (is_kept condition row) outputs row))
+
+-- the cells of one output more
+pub more_cells : (row : Row) (outputs : List Output) (i : ℕ) (output : Output) (cells new : List Owned) (cell : Owned) → i < length outputs → output ≡ get_or outputs i output
+    → cells ≡ cells_of (take i outputs) row → cell ≡ cell_of row output → new ≡ cells ++ cell ∷ [] → new ≡ cells_of (take (i + 1) outputs) row
+more_cells row outputs i output cells new cell less is kept here grown =
+    grown ∙ ap (λ (c : List Owned). c ++ cell ∷ []) kept
+    ∙ ap (λ (c : Owned). cells_of (take i outputs) row ++ c ∷ []) (here ∙ ap (cell_of row) is)
+    ∙ sym (map_more (cell_of row) outputs i output less)
 
 -- ---- the departures
 
@@ -142,34 +151,34 @@ pub last_of : (place : Place) (entries : List Entry) → place.entries ≡ entri
 last_of place entries same = ap (λ (es : List Entry). (end_of es).step) same
 
 -- the row of a place
-pub row_here : (info : Information) (place : Place) (entries : List Entry) (first : State) → place.entries ≡ entries → place.first ≡ first → row_at info place.entries place.first place.step ≡ row_at info entries first place.step
-row_here info place entries first same begins =
-    ap (λ (es : List Entry). row_of info (state_at es place.first place.step) place.step) same
-    ∙ ap (λ (f : State). row_of info (state_at entries f place.step) place.step) begins
+pub row_here : (facts : Facts) (place : Place) (entries : List Entry) (first : State) → place.entries ≡ entries → place.first ≡ first → row_at facts place.entries place.first place.step ≡ row_at facts entries first place.step
+row_here facts place entries first same begins =
+    ap (λ (es : List Entry). row_of facts (state_at es place.first place.step) place.step) same
+    ∙ ap (λ (f : State). row_of facts (state_at entries f place.step) place.step) begins
 
 -- the rows after a place was looked at
-pub kept-next : (info : Information) (place : Place) (entries : List Entry) (first : State) (question : Question) (rows new : List (List Owned)) → place.entries ≡ entries → place.first ≡ first
-    → rows ≡ kept_of question (rows_before info entries first place.step)
-    → new ≡ rows ++ noted question (row_at info place.entries place.first place.step)
-    → new ≡ kept_of question (rows_before info entries first (place.step + 1))
-kept-next info place entries first question rows new same begins kept looked =
-    rw (kept_of-next info entries first question place.step, ← kept, ← row_here info place entries first same begins) looked
+pub kept-next : (facts : Facts) (place : Place) (entries : List Entry) (first : State) (condition : Cond) (outputs : List Output) (rows new : List (List Owned)) → place.entries ≡ entries → place.first ≡ first
+    → rows ≡ kept_of condition outputs (rows_before facts entries first place.step)
+    → new ≡ rows ++ noted condition outputs (row_at facts place.entries place.first place.step)
+    → new ≡ kept_of condition outputs (rows_before facts entries first (place.step + 1))
+kept-next facts place entries first condition outputs rows new same begins kept looked =
+    rw (kept_of-next facts entries first condition outputs place.step, ← kept, ← row_here facts place entries first same begins) looked
 
 -- a replay that came to its end
-pub finished : (info : Information) (place : Place) (entries : List Entry) (first : State) (question : Question) (new : List (List Owned)) → place.entries ≡ entries → place.first ≡ first
+pub finished : (facts : Facts) (place : Place) (entries : List Entry) (first : State) (condition : Cond) (outputs : List Output) (new : List (List Owned)) → place.entries ≡ entries → place.first ≡ first
     → place.step ≤ (end_of entries).step
     → first_departure entries first (below place.step) ≡ None
-    → new ≡ kept_of question (rows_before info entries first (place.step + 1))
+    → new ≡ kept_of condition outputs (rows_before facts entries first (place.step + 1))
     → verdict_at place ≡ Err Ended
-    → (departure_of entries first ≡ None) × (new ≡ answer_rows info entries first question)
+    → (departure_of entries first ≡ None) × (new ≡ answer_rows facts entries first condition outputs)
 unfolding departure_of answer_rows states
-finished info place entries first question new same begins within going kept e =
+finished facts place entries first condition outputs new same begins within going kept e =
     let over = ends place e in
     let least = over.1 in
     let last = last_of place entries same in
     let end : place.step ≡ (end_of entries).step = omega arith in
     let none = first_departure-next entries first place.step going (at_place place entries first None same begins over.0) in
-    (ap (λ (n : ℕ). first_departure entries first (below (n + 1))) (sym end) ∙ none, kept ∙ ap (λ (n : ℕ). kept_of question (rows_before info entries first (n + 1))) end)
+    (ap (λ (n : ℕ). first_departure entries first (below (n + 1))) (sym end) ∙ none, kept ∙ ap (λ (n : ℕ). kept_of condition outputs (rows_before facts entries first (n + 1))) end)
 
 -- a replay that departed
 pub departed : (place : Place) (entries : List Entry) (first : State) (told : Departure) → place.entries ≡ entries → place.first ≡ first
@@ -188,11 +197,11 @@ is_end Ended e = refl
 is_end (Departs departure) e = cc
 
 -- the answer where a run departs
-pub gives_stop : (info : Information) (place : Place) (entries : List Entry) (first : State) (question : Question) (halt : Halt) (why : Ending) → end_by_halt halt ≡ Some why
+pub gives_stop : (facts : Facts) (place : Place) (entries : List Entry) (first : State) (condition : Cond) (outputs : List Output) (halt : Halt) (why : Ending) → end_by_halt halt ≡ Some why
     → place.entries ≡ entries → place.first ≡ first → place.step ≤ (end_of entries).step
     → first_departure entries first (below place.step) ≡ None
-    → verdict_at place ≡ Err halt → GivesRows info entries first question (Err why)
-gives_stop info place entries first question Ended why e same begins within going verdict = cc
-gives_stop info place entries first question (Departs told) why e same begins within going verdict =
+    → verdict_at place ≡ Err halt → GivesRows facts entries first condition outputs (Err why)
+gives_stop facts place entries first condition outputs Ended why e same begins within going verdict = cc
+gives_stop facts place entries first condition outputs (Departs told) why e same begins within going verdict =
     let is : Refused (refusal.Departs told) ≡ why = cc in
-    subst (λ (w : Ending). GivesRows info entries first question (Err w)) is (rw (departed place entries first told same begins within going verdict) refl)
+    subst (λ (w : Ending). GivesRows facts entries first condition outputs (Err w)) is (rw (departed place entries first told same begins within going verdict) refl)

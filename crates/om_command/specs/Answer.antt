@@ -1,7 +1,9 @@
--- The answer of a question: a filter over the rows of all states of the run.
+-- The answer of a query: a filter over the rows of all states of the run.
 use Rattle.std.specs.Prelude.{ℕ, ◌+◌, Bool, true, false, List, [], ◌∷◌, map, filter}
-use Rattle.om_eval.specs.Meaning.{cell_at, truth}
+use Rattle.om_eval.specs.Meaning.{truth, value}
 use Rattle.om_eval.specs.Row.{Row, row_tuple}
+use Rattle.om_eval.specs.declared.cond.Cond.{Cond}
+use Rattle.om_eval.specs.declared.cond.Cond.TheViews as cond
 use Rattle.om_eval.specs.declared.truth.Truth.{Truth}
 use Rattle.om_eval.specs.declared.truth.Truth.TheVariants.{Yes, No, Unknown}
 use Rattle.om_eval.specs.declared.value.Owned.{Owned}
@@ -10,20 +12,21 @@ use Rattle.om_run.specs.Run.{states}
 use Rattle.om_step.specs.State.{State}
 use Rattle.om_table.specs.Text.{text_of}
 use Rattle.om_table.specs.declared.table.Style.TheVariants.{Columns}
-use Rattle.om_names.specs.Information.{Information}
+use Rattle.om_names.specs.Facts.{Facts}
 use Rattle.om_view.specs.Row.{row_of}
-use Rattle.om_command.specs.declared.asked.Question.{Question}
+use Rattle.om_type.specs.declared.typed.Output.{Output}
+use Rattle.om_type.specs.declared.typed.Typed.{Typed}
 
 -- ---- the relation
 
 -- the rows of states that follow one another, the first of which is the one after so many steps
-abbrev pub rows_from : Information → ℕ → List State → List Row
-rows_from info step [] = []
-rows_from info step (state ∷ later) = row_of info state step ∷ rows_from info (step + 1) later
+abbrev pub rows_from : Facts → ℕ → List State → List Row
+rows_from facts step [] = []
+rows_from facts step (state ∷ later) = row_of facts state step ∷ rows_from facts (step + 1) later
 
 -- the relation: the rows of all states of a run, with what is known of its executable
-abbrev pub relation : Information → List Entry → State → List Row
-relation info entries first = rows_from info 0 (states entries first)
+abbrev pub relation : Facts → List Entry → State → List Row
+relation facts entries first = rows_from facts 0 (states entries first)
 
 -- ---- the answer
 
@@ -32,23 +35,35 @@ is_yes Yes = true
 is_yes No = false
 is_yes Unknown = false
 
--- the condition of a question is true at a row
-abbrev pub is_kept : Question → Row → Bool
-is_kept question row = is_yes (truth (row_tuple row) question.filter)
+-- a condition is true at a row
+abbrev pub is_kept : Cond → Row → Bool
+is_kept condition row = is_yes (truth (row_tuple row) condition)
 
--- the cells of a row, one for each column that is asked for
-abbrev pub cells_of : Question → Row → List Owned
-cells_of question row = map (cell_at row) question.columns
+-- the cell of a row for an output
+abbrev pub cell_of : Row → Output → Owned
+cell_of row output = value (row_tuple row) output.expr
 
--- of some rows, the cells of those at which the condition is true
-abbrev pub kept_of : Question → List Row → List (List Owned)
-kept_of question rows = map (cells_of question) (filter (is_kept question) rows)
+-- the cells of a row, one for each output
+abbrev pub cells_of : List Output → Row → List Owned
+cells_of outputs row = map (cell_of row) outputs
 
--- the rows of the answer
-unfoldable pub answer_rows : Information → List Entry → State → Question → List (List Owned)
-answer_rows info entries first question = kept_of question (relation info entries first)
+-- of some rows, the cells of those at which a condition is true
+abbrev pub kept_of : Cond → List Output → List Row → List (List Owned)
+kept_of condition outputs rows = map (cells_of outputs) (filter (is_kept condition) rows)
+
+-- the rows of the answer to outputs at which a condition is true
+unfoldable pub answer_rows : Facts → List Entry → State → Cond → List Output → List (List Owned)
+answer_rows facts entries first condition outputs = kept_of condition outputs (relation facts entries first)
+
+-- all conjuncts of a query hold
+abbrev pub condition_of : Typed → Cond
+condition_of typed = cond.And typed.conjuncts
+
+-- the names above the columns of the answer
+abbrev pub names_of : List Output → List (List ℕ)
+names_of outputs = map (λ output. output.name) outputs
 
 -- the text of the answer
-abbrev pub answer_text : Information → List Entry → State → Question → List ℕ
-answer_text info entries first question =
-    text_of Columns (record { names = question.names; rows = answer_rows info entries first question })
+abbrev pub answer_text : Facts → List Entry → State → Cond → List Output → List ℕ
+answer_text facts entries first condition outputs =
+    text_of Columns (record { names = names_of outputs; rows = answer_rows facts entries first condition outputs })

@@ -6,9 +6,8 @@ use Rattle.om_elf.specs.declared.fault.ElfFault.{ElfFault}
 use Rattle.om_log.specs.declared.entry.Entry.{Entry}
 use Rattle.om_log.specs.declared.fault.LogFault.{LogFault}
 use Rattle.om_log.specs.declared.log.Log.{Log}
-use Rattle.om_parse.specs.declared.fault.ParseFault.{ParseFault}
-use Rattle.om_parse.specs.declared.tree.Query.{Query}
 use Rattle.om_mem.specs.Contents.{overlap_of}
+use Rattle.om_names.specs.Facts.{Facts, facts_of}
 use Rattle.om_names.specs.Information.{Information}
 use Rattle.om_names.specs.declared.fault.NamesFault.{NamesFault}
 use Rattle.om_record.specs.Recording.{Recording, made, too_long, no_room, recording}
@@ -20,13 +19,12 @@ use Rattle.om_step.specs.First.{first_state, regions_of}
 use Rattle.om_step.specs.State.{State}
 use Rattle.om_command.specs.declared.refusal.Part.TheVariants as part
 use Rattle.om_command.specs.declared.refusal.Refusal.TheVariants as refusal
-use Rattle.om_command.specs.Answer.{answer_text}
-use Rattle.om_command.specs.Asked.{question_in}
+use Rattle.om_command.specs.Answer.{answer_text, condition_of}
 use Rattle.om_command.specs.Effect.{Effect, prints, puts, refuses, exceeds, misses}
 use Rattle.om_command.specs.Files.{AreFound, File, Reaches, longer, missing}
 use Rattle.om_command.specs.Readings.{AreReadings, Readings, content_at, needs_of}
 use Rattle.om_command.specs.Requests.{Command, Request, queries, records}
-use Rattle.om_command.specs.declared.asked.Question.{Question}
+use Rattle.om_type.specs.declared.typed.Typed.{Typed}
 
 -- the greatest number of steps that are replayed or recorded
 abbrev pub most_steps : ℕ
@@ -37,41 +35,36 @@ abbrev pub ended_by : Option Departure → List ℕ → Effect
 ended_by None text = prints text
 ended_by (Some departure) text = refuses (refusal.Departs departure)
 
--- what a question about a run comes to
-abbrev pub judged_run : Information → List Entry → State → Question → Effect
-judged_run info entries first question =
+-- what a query about a run comes to
+abbrev pub judged_run : Facts → List Entry → State → Typed → Effect
+judged_run facts entries first typed =
     let last = (end_of entries).step in
     if nat_lt most_steps last
     then refuses (refusal.TooLong last)
-    else ended_by (departure_of entries first) (answer_text info entries first question)
+    else ended_by (departure_of entries first) (answer_text facts entries first (condition_of typed) typed.outputs)
 
 -- the query is judged where no regions overlap, and the run where the query is one that is built
-abbrev pub judged_query : Information → List Entry → State → Option Question → Effect
-judged_query info entries first None = refuses (refusal.Unbuilt part.Query)
-judged_query info entries first (Some question) = judged_run info entries first question
+abbrev pub judged_query : Facts → List Entry → State → Option Typed → Effect
+judged_query facts entries first None = refuses (refusal.Unbuilt part.Query)
+judged_query facts entries first (Some typed) = judged_run facts entries first typed
 
-abbrev pub judged_overlap : Option (ℕ × ℕ) → Elf → Information → Log → Option Question → Effect
-judged_overlap (Some pair) elf info log question = refuses (refusal.Overlap pair.0 pair.1)
-judged_overlap None elf info log question = judged_query info log.entries (first_state elf log.start) question
-
--- the question that a query's text is, if it is one that is built
-abbrev pub question_of : Result Query ParseFault → Option Question
-question_of (Ok query) = question_in query
-question_of (Err fault) = None
+abbrev pub judged_overlap : Option (ℕ × ℕ) → Elf → Facts → Log → Option Typed → Effect
+judged_overlap (Some pair) elf facts log query = refuses (refusal.Overlap pair.0 pair.1)
+judged_overlap None elf facts log query = judged_query facts log.entries (first_state elf log.start) query
 
 -- a log that isn't one is refused, and of another one the overlap is judged
-abbrev pub judged_log : Elf → Information → Result Log LogFault → Option Question → Effect
-judged_log elf info (Err fault) question = refuses (refusal.Log fault)
-judged_log elf info (Ok log) question = judged_overlap (overlap_of (regions_of elf.segments log.start)) elf info log question
+abbrev pub judged_log : Elf → Facts → Result Log LogFault → Option Typed → Effect
+judged_log elf facts (Err fault) query = refuses (refusal.Log fault)
+judged_log elf facts (Ok log) query = judged_overlap (overlap_of (regions_of elf.segments log.start)) elf facts log query
 
 -- debugging information with a fault is refused, and then comes the log
-abbrev pub judged_debug : Elf → Result Information NamesFault → Result Log LogFault → Option Question → Effect
-judged_debug elf (Err fault) log question = refuses (refusal.Debug fault)
-judged_debug elf (Ok info) log question = judged_log elf info log question
+abbrev pub judged_debug : Elf → Result Information NamesFault → Result Log LogFault → Option Typed → Effect
+judged_debug elf (Err fault) log query = refuses (refusal.Debug fault)
+judged_debug elf (Ok info) log query = judged_log elf (facts_of info) log query
 
 abbrev pub judged_elf : Option ElfFault → Elf → Readings → Effect
 judged_elf (Some fault) elf read = refuses (refusal.Executable fault)
-judged_elf None elf read = judged_debug elf read.debug read.log (question_of read.query)
+judged_elf None elf read = judged_debug elf read.debug read.log read.query
 
 -- what a query comes to over the bytes of an executable, where all that it rests on is read so
 unfoldable pub judged : List ℕ → Readings → Effect

@@ -4,6 +4,8 @@ use Rattle.om_die.specs.declared.fault.DieFault.{DieFault}
 use Rattle.om_die.specs.declared.fault.DieFault.TheVariants as die
 use Rattle.om_elf.specs.declared.fault.ElfFault.{ElfFault}
 use Rattle.om_elf.specs.declared.fault.ElfFault.TheVariants as elf
+use Rattle.om_line.specs.declared.fault.LineFault.{LineFault}
+use Rattle.om_line.specs.declared.fault.LineFault.TheVariants as line
 use Rattle.om_log.specs.declared.fault.LogFault.{LogFault}
 use Rattle.om_log.specs.declared.fault.LogFault.TheVariants as log
 use Rattle.om_names.specs.declared.fault.NamesFault.{NamesFault}
@@ -72,10 +74,24 @@ die_words (die.Target at) = with_numbers (codes "ref at") (at ∷ [])
 die_words (die.TooMany at) = with_numbers (codes "too many at") (at ∷ [])
 die_words die.NoMemory = []
 
+-- the words for a fault of a line table
+abbrev pub line_words : LineFault → List ℕ
+line_words (line.Short at) = with_numbers (codes "short at") (at ∷ [])
+line_words (line.Version at) = with_numbers (codes "version at") (at ∷ [])
+line_words (line.Header at) = with_numbers (codes "header at") (at ∷ [])
+line_words (line.Opcode at) = with_numbers (codes "opcode at") (at ∷ [])
+line_words line.NoMemory = []
+
+-- the words for a type of .debug_info that leads too far
+abbrev pub type_loop_words : ℕ → List ℕ
+type_loop_words at = with_numbers (codes "type loop at") (at ∷ [])
+
 -- the words for a fault of debugging information: its section first
 abbrev pub debug_words : NamesFault → List ℕ
 debug_words (names.Info fault) = codes ".debug_info " ++ die_words fault
 debug_words (names.Ranges fault) = codes ".debug_ranges " ++ die_words fault
+debug_words (names.Lines fault) = codes ".debug_line " ++ line_words fault
+debug_words (names.TypeLoop at) = codes ".debug_info " ++ type_loop_words at
 debug_words names.NoMemory = []
 
 -- the words for a fault of a log

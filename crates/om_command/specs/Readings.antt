@@ -1,5 +1,6 @@
--- What an executable's debugging information, a log's file and a query's text say: each is read in one way, or has one fault.
-use Rattle.std.specs.Prelude.{◌≡◌, ℕ, ◌<◌, slice_index, List, [], get_or, Option, Some, None, IfSome, Result, Ok, Err}
+-- What an executable's debugging information, a log's file and a query's text say: each is read in one way, or has one fault, or
+-- asks for what isn't built.
+use Rattle.std.specs.Prelude.{◌≡◌, ◌⊎◌, ℕ, ◌<◌, slice_index, List, [], get_or, Option, Some, None, IfSome, Result, Ok, Err}
 use Rattle.om_elf.specs.Executable.{elf_fault, elf_in}
 use Rattle.om_elf.specs.declared.elf.Elf.{Elf}
 use Rattle.om_log.specs.Grammar.{IsLog}
@@ -7,18 +8,21 @@ use Rattle.om_log.specs.Faults.{IsFault}
 use Rattle.om_log.specs.declared.fault.LogFault.{LogFault}
 use Rattle.om_log.specs.declared.log.Log.{Log}
 use Rattle.om_names.specs.Information.{Information}
-use Rattle.om_names.specs.Reading.{IsLawful, IsRefused}
+use Rattle.om_names.specs.Stages.{IsLawful, IsRefused}
 use Rattle.om_names.specs.declared.fault.NamesFault.{NamesFault}
 use Rattle.om_parse.specs.Refusals.{HasTree, IsRefusal}
 use Rattle.om_parse.specs.declared.fault.ParseFault.{ParseFault}
 use Rattle.om_parse.specs.declared.tree.Query.{Query}
+use Rattle.om_type.specs.Typing.{IsTyped, Variables}
+use Rattle.om_type.specs.Unbuilt.{IsUnbuilt}
+use Rattle.om_type.specs.declared.typed.Typed.{Typed}
 use Rattle.om_command.specs.Requests.{Command, queries, records}
 
 -- what is read of a command's files and words
 pub record Readings : Type 0 where
   pub debug : Result Information NamesFault
   pub log : Result Log LogFault
-  pub query : Result Query ParseFault
+  pub query : Option Typed
 
 -- what is read is a thing that there is, or a fault that there is
 abbrev pub IsReadAs : {A F : Type 0} → (A → Type 0) → (F → Type 0) → Result A F → Type 0
@@ -33,9 +37,22 @@ IsDebugReading elf read = IsReadAs (IsLawful elf) (IsRefused elf) read
 abbrev pub IsLogReading : List ℕ → Result Log LogFault → Type 0
 IsLogReading file read = IsReadAs (IsLog file) (IsFault file) read
 
--- a text has this tree, or this refusal
-abbrev pub IsQueryReading : List ℕ → Result Query ParseFault → Type 0
-IsQueryReading text read = IsReadAs (HasTree text) (IsRefusal text) read
+-- a text with a tree asks this, of which the names are those of the relation and of some variables
+abbrev pub Asks : Variables → List ℕ → Typed → Type 0
+Asks catalog text typed = (query : Query) × HasTree text query × IsTyped catalog query typed
+
+-- a text has no tree, or asks for what isn't built
+abbrev pub AsksNothing : Variables → List ℕ → Type 0
+AsksNothing catalog text = ((query : Query) × HasTree text query × IsUnbuilt catalog query) ⊎ ((fault : ParseFault) × IsRefusal text fault)
+
+-- a text asks this, or nothing that is built
+abbrev pub IsQueryReading : Variables → List ℕ → Option Typed → Type 0
+IsQueryReading catalog text (Some typed) = Asks catalog text typed
+IsQueryReading catalog text None = AsksNothing catalog text
+
+-- the variables of an executable: none is named yet
+abbrev pub variables : Variables
+variables = []
 
 -- ---- of a command
 
@@ -65,4 +82,4 @@ IsLogRead read file = ((i : ℕ) → slice_index file i < 256) → IsLogReading 
 pub record AreReadings (needs : Needs) (contents : List (List ℕ)) (read : Readings) : Type 0 where
   pub debug : IfSome needs.debug (λ place. IsExecutableRead read.debug (content_at contents place))
   pub log : IfSome needs.log (λ place. IsLogRead read.log (content_at contents place))
-  pub query : IfSome needs.query (λ text. IsQueryReading text read.query)
+  pub query : IfSome needs.query (λ text. IsQueryReading variables text read.query)

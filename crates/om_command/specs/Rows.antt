@@ -10,30 +10,31 @@ use Rattle.om_run.specs.declared.departure.Halt.TheVariants as halt
 use Rattle.om_step.specs.State.{State}
 use Rattle.om_command.specs.Answer.{answer_rows, answer_text, cells_of, is_kept, rows_from}
 use Rattle.om_command.specs.Command.{ended_by}
-use Rattle.om_names.specs.Information.{Information}
+use Rattle.om_names.specs.Facts.{Facts}
 use Rattle.om_view.specs.Row.{row_of}
-use Rattle.om_command.specs.declared.asked.Question.{Question}
+use Rattle.om_eval.specs.declared.cond.Cond.{Cond}
+use Rattle.om_type.specs.declared.typed.Output.{Output}
 use Rattle.om_command.specs.declared.ending.Ending.{Ending}
 use Rattle.om_command.specs.declared.ending.Ending.TheVariants.{Refused}
 use Rattle.om_command.specs.declared.refusal.Refusal.TheVariants as refusal
 use Rattle.om_command.specs.Reads.{IsRefusal}
 
 -- the row of the state after so many steps
-abbrev pub row_at : Information → List Entry → State → ℕ → Row
-row_at info entries first i = row_of info (state_at entries first i) i
+abbrev pub row_at : Facts → List Entry → State → ℕ → Row
+row_at facts entries first i = row_of facts (state_at entries first i) i
 
 -- the rows of the states before a step
-abbrev pub rows_before : Information → List Entry → State → ℕ → List Row
-rows_before info entries first i = rows_from info 0 (map (state_at entries first) (below i))
+abbrev pub rows_before : Facts → List Entry → State → ℕ → List Row
+rows_before facts entries first i = rows_from facts 0 (map (state_at entries first) (below i))
 
 -- a row's cells, if the condition is true at it
-abbrev pub noted : Question → Row → List (List Owned)
-noted question row = if is_kept question row then cells_of question row ∷ [] else []
+abbrev pub noted : Cond → List Output → Row → List (List Owned)
+noted condition outputs row = if is_kept condition row then cells_of outputs row ∷ [] else []
 
 -- the answer is the rows of a run that comes to its end, the refusal of one that departs from its log, or want of memory
-abbrev pub GivesRows : Information → List Entry → State → Question → Result (List (List Owned)) Ending → Type 0
-GivesRows info entries first question (Ok rows) = (departure_of entries first ≡ None) × (rows ≡ answer_rows info entries first question)
-GivesRows info entries first question (Err ending) = IsRefusal (ended_by (departure_of entries first) (answer_text info entries first question)) ending
+abbrev pub GivesRows : Facts → List Entry → State → Cond → List Output → Result (List (List Owned)) Ending → Type 0
+GivesRows facts entries first condition outputs (Ok rows) = (departure_of entries first ≡ None) × (rows ≡ answer_rows facts entries first condition outputs)
+GivesRows facts entries first condition outputs (Err ending) = IsRefusal (ended_by (departure_of entries first) (answer_text facts entries first condition outputs)) ending
 
 -- how a command ends whose replay halts, if that is no end of the run
 abbrev pub end_by_halt : Halt → Option Ending

@@ -1,13 +1,14 @@
 //! What the faults of files and the broken rules of a run tell.
 
 ghost use Rattle.std.specs.Prelude.{◌≡◌};
-ghost use Rattle.om_command.specs.Lines.{die_words, elf_words, fault_words, reason_words, word_of};
+ghost use Rattle.om_command.specs.Lines.{die_words, elf_words, fault_words, line_words, reason_words, type_loop_words, word_of};
 ghost use Rattle.om_command.specs.Told.{told_text};
 
 use crate::refusal::Part;
 use crate::told::Told;
 use om_die::DieFault;
 use om_elf::ElfFault;
+use om_line::LineFault;
 use om_log::LogFault;
 use om_run::Reason;
 
@@ -52,6 +53,26 @@ pub fn die_told(fault: DieFault) -> Told
         DieFault::TooMany { at } => Told::number(b"too many at", u64::from(at)),
         DieFault::NoMemory => Told::words(b""),
     }
+}
+
+/// What a fault of a line table tells.
+pub fn line_told(fault: LineFault) -> Told
+    ensures { told_text result ≡ line_words fault }
+{
+    match fault {
+        LineFault::Short { at } => Told::number(b"short at", u64::from(at)),
+        LineFault::Version { at } => Told::number(b"version at", u64::from(at)),
+        LineFault::Header { at } => Told::number(b"header at", u64::from(at)),
+        LineFault::Opcode { at } => Told::number(b"opcode at", u64::from(at)),
+        LineFault::NoMemory => Told::words(b""),
+    }
+}
+
+/// What a type of `.debug_info` that leads too far tells, of the entry at `at`.
+pub fn type_loop_told(at: u32) -> Told
+    ensures { told_text result ≡ type_loop_words at }
+{
+    Told::number(b"type loop at", u64::from(at))
 }
 
 /// What a fault of a log tells.

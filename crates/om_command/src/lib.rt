@@ -2,8 +2,6 @@
 #![tactic(auto)]
 
 mod answer;
-mod asked;
-mod columns;
 mod delivery;
 mod ending;
 mod escaping;

@@ -4,7 +4,9 @@ ghost use Rattle.std.specs.Prelude.{◌≡◌, [], ◌∷◌, ◌++◌, codes, d
 ghost use Rattle.om_command.specs.Lines.{debug_words, number_words, reason_words, refusal_line, step_words};
 ghost use Rattle.om_io.specs.Writing.{Puts};
 
-use crate::faults::{die_told, elf_told, log_told, part_told, reason_told};
+use crate::faults::{
+    die_told, elf_told, line_told, log_told, part_told, reason_told, type_loop_told,
+};
 use crate::refusal::Refusal;
 use crate::told::{Told, put_place, put_told};
 use itoa::Buffer;
@@ -22,6 +24,14 @@ fn put_debug<P: Sink>(sink: &mut P, fault: NamesFault) -> Result<(), SinkFail>
             sink,
             b"omni: debug: .debug_ranges ",
             &die_told(fault),
+        ),
+        NamesFault::Lines(fault) => {
+            put_told(sink, b"omni: debug: .debug_line ", &line_told(fault))
+        }
+        NamesFault::TypeLoop { at } => put_told(
+            sink,
+            b"omni: debug: .debug_info ",
+            &type_loop_told(at),
         ),
         NamesFault::NoMemory => put_all(sink, b"omni: debug: "),
     }

@@ -67,7 +67,7 @@ fn sibling(units: &Units) -> Option<u32> {
     let unit = units.list.as_slice().last()?;
     let die = unit.dies.as_slice().last()?;
     match die.attribute(1)? {
-        AttrValue::Target(offset) => Some(*offset),
+        AttrValue::Target(offset) => Some(offset),
         _ => None,
     }
 }

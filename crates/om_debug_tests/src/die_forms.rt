@@ -116,8 +116,10 @@ Elsewhere
 /// The values of an entry's attributes, one a line.
 fn values_of(alloc: Global, die: &Die) -> Result<String, AllocError> {
     let mut values = String::new(alloc);
-    for attr in die.attrs.as_slice() {
-        writeln!(values, "{:?}", attr.value)?;
+    for name in 0x01..0x20 {
+        if let Some(value) = die.attribute(name) {
+            writeln!(values, "{value:?}")?;
+        }
     }
     Ok(values)
 }

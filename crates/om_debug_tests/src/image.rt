@@ -1,8 +1,10 @@
-//! The programs against bytes that are stated, and against what `readelf` prints of them.
+//! The programs against bytes that are stated, and against what `readelf` and `addr2line` print of them.
 
 use om_base::{u16_at, u32_at};
+use om_elf::read_elf;
 use om_image::{Program, Which, small_specimen, worked};
-use std::alloc::Global;
+use om_names::{Debug, read_debug};
+use std::alloc::{AllocError, Global};
 use std::test::Fail;
 
 /// P: the ELF header, the program header, and the five instructions.
@@ -50,10 +52,73 @@ fn sections_are_where_readelf_finds_them(rt: HostRuntime) -> Result<(), Fail> {
 #[test]
 fn the_small_specimen_has_a_truth(rt: HostRuntime) -> Result<(), Fail> {
     let small = small_specimen(rt.alloc())?;
-    let shown = printed(rt.alloc(), &small, 463)?;
-    assert_eq!(rt; shown.as_str(), "503 343 4 132 25");
+    let shown = printed(rt.alloc(), &small, 602)?;
+    assert_eq!(rt; shown.as_str(), "642 442 5 189 31");
     let truth = [(0, 26), (1, 10), (2, 10), (3, 10)];
     assert_eq!(rt; small.truth.as_slice(), truth.as_slice());
     assert_eq!(rt; small.input.bytes().len(), 0);
+    Ok(())
+}
+
+/// The line of each word of the small specimen as `readelf --debug-dump=decodedline` prints it. `addr2line`
+/// says the same of a copy that has a section of the code, and that the words around have none.
+const SMALL_LINES: &[u8] = b"\
+    65532 -\n\
+    65536 specimen.c:1\n\
+    65540 specimen.c:2\n\
+    65544 specimen.c:3\n\
+    65548 specimen.c:4\n\
+    65552 specimen.c:5\n\
+    65556 specimen.c:6\n\
+    65560 specimen.c:7\n\
+    65564 specimen.c:8\n\
+    65568 specimen.c:9\n\
+    65572 specimen.c:10\n\
+    65576 specimen.c:11\n\
+    65580 specimen.c:12\n\
+    65584 specimen.c:13\n\
+    65588 specimen.c:14\n\
+    65592 specimen.c:15\n\
+    65596 specimen.c:16\n\
+    65600 specimen.c:17\n\
+    65604 specimen.c:18\n\
+    65608 specimen.c:19\n\
+    65612 specimen.c:20\n\
+    65616 -\n";
+
+/// Adds an address with its file and line, `-` where there is none.
+fn put_line(text: &mut Vec<u8>, debug: &Debug<'_>, pc: u32) -> Result<(), AllocError> {
+    text.extend_from_slice(itoa::Buffer::new().format(pc).as_bytes())?;
+    text.push(b' ')?;
+    match (debug.file_at(pc), debug.line_at(pc)) {
+        (Some(file), Some(row)) => {
+            text.extend_from_slice(file.bytes())?;
+            text.push(b':')?;
+            text.extend_from_slice(itoa::Buffer::new().format(row.line).as_bytes())?;
+        }
+        _ => text.push(b'-')?,
+    }
+    text.push(b'\n')?;
+    Ok(())
+}
+
+/// The lines of the words of the small specimen, and of one before and one behind them.
+fn lines_of_words(alloc: Global, file: &[u8]) -> Result<Vec<u8>, Fail> {
+    let elf = read_elf(alloc, file)?;
+    let debug = read_debug(alloc, &elf)?;
+    let mut text = Vec::new(alloc);
+    for pc in 65_532..65_617 {
+        if pc % 4 == 0 {
+            put_line(&mut text, &debug, pc)?;
+        }
+    }
+    Ok(text)
+}
+
+#[test]
+fn each_word_of_the_small_specimen_has_its_line(rt: HostRuntime) -> Result<(), Fail> {
+    let small = small_specimen(rt.alloc())?;
+    let lines = lines_of_words(rt.alloc(), small.elf.bytes())?;
+    assert_eq!(rt; lines.as_slice(), SMALL_LINES);
     Ok(())
 }

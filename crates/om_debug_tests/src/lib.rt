@@ -1,4 +1,4 @@
-//! Tests of executables and their debugging information: the crates `om_claims`, `om_elf`, `om_die`, `om_line`, `om_names`, `om_image` and `om_view`.
+//! Tests of executables and their debugging information: the crates `om_claims`, `om_elf`, `om_die`, `om_line`, `om_loc`, `om_names`, `om_image` and `om_view`.
 #![tactic(auto)]
 
 #[cfg(test)]
@@ -12,8 +12,12 @@ mod elf;
 #[cfg(test)]
 mod image;
 #[cfg(test)]
+mod line_tables;
+#[cfg(test)]
 mod lines;
 #[cfg(test)]
 mod names;
+#[cfg(test)]
+mod places;
 #[cfg(test)]
 mod view;

@@ -9,7 +9,7 @@ use std::alloc::{AllocError, Global};
 use std::test::Fail;
 
 /// Version 4: two functions of a.c, the first of which has one of b.h in it.
-const MADE_BY_GCC: &[u8] = b"\
+pub const MADE_BY_GCC: &[u8] = b"\
     \x8d\0\0\0\x04\0\x22\0\0\0\x01\x01\x01\xfb\x0e\x0d\0\x01\x01\x01\x01\0\0\0\x01\0\0\x01\
     \0a.c\0\0\0\0b.h\0\0\0\0\0\
     \x05\x0e\0\x05\x02\0\0\x01\0\x13\x06\x01\x05\x03\x06\x67\x13\x05\x08\x01\x05\x15\x01\x05\x0c\x06\x4a\
@@ -19,7 +19,7 @@ const MADE_BY_GCC: &[u8] = b"\
 
 /// Version 3, with instructions of 4 bytes: each standard opcode, one of two operands that nobody
 /// knows, and each extended opcode, with one that nobody knows.
-const MADE_BY_HAND: &[u8] = b"\
+pub const MADE_BY_HAND: &[u8] = b"\
     \x6e\0\0\0\x03\0\x23\0\0\0\x04\x01\xfd\x0c\x0e\0\x01\x01\x01\x01\0\0\0\x01\0\0\x01\x02\
     inc\0lib\0\0a.c\0\x01\x02\x03\0\
     \0\x05\x02\0\0\x01\0\x01\

@@ -37,8 +37,8 @@ fn two_steps(machine: &mut Machine) -> u64 {
     meter.value()
 }
 
-/// The cells of a row: the step, the pc, the word there, a0, the function, the file; then half of the word
-/// at 65556, and a byte that is unmapped.
+/// The cells of a row: the step, the pc, the word there, a0, the function, the file and the line; then half
+/// of the word at 65556, and a byte that is unmapped.
 fn shown(alloc: Global, view: &View<'_>) -> Result<String, AllocError> {
     let step = view.cell(ColumnId::Step);
     let pc = view.cell(ColumnId::Pc);
@@ -46,9 +46,12 @@ fn shown(alloc: Global, view: &View<'_>) -> Result<String, AllocError> {
     let a0 = view.cell(ColumnId::Reg(10));
     let func = view.cell(ColumnId::Func);
     let file = view.cell(ColumnId::File);
+    let line = view.cell(ColumnId::Line);
     let half = view.mem(65556, 2);
     let unmapped = view.mem(0, 1);
-    format!(in alloc; "{step:?} {pc:?} {insn:?} {a0:?} {func:?} {file:?} {half:?} {unmapped:?}")
+    format!(in alloc;
+        "{step:?} {pc:?} {insn:?} {a0:?} {func:?} {file:?} {line:?} {half:?} {unmapped:?}"
+    )
 }
 
 /// The row of the state two steps into the run of an executable.
@@ -74,11 +77,13 @@ fn row_of(alloc: Global, file: &[u8]) -> Result<String, Fail> {
 
 #[test]
 fn a_row_has_what_its_state_has(rt: HostRuntime) -> Result<(), Fail> {
-    // `addi a0, x0, 3` and `jal ra, 16` lead to `down`, which begins with `addi sp, sp, -32`.
+    // `addi a0, x0, 3` and `jal ra, 16` lead to `down`, which begins with `addi sp, sp, -32` in line 6 of
+    // `specimen.c`.
     let program = small_specimen(rt.alloc())?;
     let row = row_of(rt.alloc(), program.elf.bytes())?;
     let want = "Int(2) Int(65556) Int(4261478675) Int(3) \
-        Text(Name { bytes: [100, 111, 119, 110] }) Null Int(275) Null";
+        Text(Name { bytes: [100, 111, 119, 110] }) \
+        Text(Name { bytes: [115, 112, 101, 99, 105, 109, 101, 110, 46, 99] }) Int(6) Int(275) Null";
     assert_eq!(rt; row.as_str(), want);
     Ok(())
 }

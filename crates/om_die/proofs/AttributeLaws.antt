@@ -8,7 +8,7 @@ use Rattle.om_die.specs.Attributes.{AreAttributes, HasGap, IsGap}
 use Rattle.om_die.specs.Forms.{Around, IsFormRefused, HasNoValue}
 use Rattle.om_die.specs.Laws.{ListOrGap, OneGap, OneList, WholeOrNot}
 use Rattle.om_die.specs.Readers.{value_in}
-use Rattle.om_die.specs.Value.{Attribute, Value}
+use Rattle.om_die.specs.AttributeValue.{Attribute, Value}
 use Rattle.om_die.specs.declared.abbreviation.Specification.{Specification}
 use Rattle.om_die.specs.declared.attributes.Gap.{Gap}
 use Rattle.om_die.specs.declared.attributes.Gap.TheVariants as gap

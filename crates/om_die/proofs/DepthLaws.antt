@@ -7,10 +7,10 @@ use Rattle.om_base.proofs.LebLaws.{uleb_reads}
 use Rattle.om_die.specs.Entries.{AreDies, Close, Entry, IsEntry, IsItem, IsPlaced, Item, Placed, depth_after, die_of, dies_of}
 use Rattle.om_die.specs.Forms.{Around}
 use Rattle.om_die.specs.Laws.{DeeperBelowChildren, DepthOfNext, FirstBelowNone, HasOneReading, OneDeeper}
-use Rattle.om_die.specs.Value.{Attribute}
+use Rattle.om_die.specs.AttributeValue.{Attribute}
 use Rattle.om_die.specs.declared.abbreviation.Abbreviation.{Abbreviation}
 use Rattle.om_die.specs.declared.die.Die.{Die}
-use Rattle.om_die.proofs.EntryLaws.{leb_some}
+use Rattle.om_die.proofs.DieLaws.{leb_some}
 use Rattle.om_die.proofs.EntryOnce.{entries_once}
 use Rattle.om_die.proofs.ReaderLemmas.{reading_once}
 

@@ -8,12 +8,12 @@ use Rattle.om_die.specs.Entries.{AreDies, Close, Entry, IsEntry, IsItem, IsPlace
 use Rattle.om_die.specs.Forms.{Around}
 use Rattle.om_die.specs.Laws.{HasOneReading}
 use Rattle.om_die.specs.Refusals.{AreDiesRefused, HasCode, IsEntryRefused, IsItemRefused, gap_fault}
-use Rattle.om_die.specs.Value.{Attribute}
+use Rattle.om_die.specs.AttributeValue.{Attribute}
 use Rattle.om_die.specs.declared.abbreviation.Abbreviation.{Abbreviation}
 use Rattle.om_die.specs.declared.die.Die.{Die}
 use Rattle.om_die.specs.declared.fault.DieFault.{DieFault}
 use Rattle.om_die.proofs.AttributeLaws.{one_gap, one_list, whole_or_not}
-use Rattle.om_die.proofs.EntryLaws.{die_count, item_some}
+use Rattle.om_die.proofs.DieLaws.{die_count, item_some}
 use Rattle.om_die.proofs.ListLaws.{HasNext, compare, nothing_next, one_list_of}
 use Rattle.om_die.proofs.ReaderLemmas.{reading_once}
 

@@ -11,67 +11,68 @@ use Rattle.om_base.proofs.LebLaws.{sleb_reads, uleb_reads}
 use Rattle.om_base.proofs.LebLemmas.{sleb_byte, uleb_byte}
 use Rattle.om_die.specs.Forms.{IsBlock, IsPlain, IsValue, By, capped, form_codes, form_in, form_of}
 use Rattle.om_die.specs.Laws.{EachFormHasCode, EachFormSpells, OneCode}
-use Rattle.om_die.specs.Value.{Value}
-use Rattle.om_die.specs.Value as v
-use Rattle.om_die.specs.declared.form.Form.{Form}
-use Rattle.om_die.specs.declared.form.Form.TheVariants as f
+use Rattle.om_die.specs.AttributeValue.{Value}
+use Rattle.om_die.specs.AttributeValue as v
+use Rattle.om_die.specs.Constants.{DW_FORM_addr, DW_FORM_block2, DW_FORM_block4, DW_FORM_data2, DW_FORM_data4, DW_FORM_data8, DW_FORM_string, DW_FORM_block, DW_FORM_block1, DW_FORM_data1, DW_FORM_flag, DW_FORM_sdata, DW_FORM_strp, DW_FORM_udata, DW_FORM_ref_addr, DW_FORM_ref1, DW_FORM_ref2, DW_FORM_ref4, DW_FORM_ref8, DW_FORM_ref_udata, DW_FORM_indirect, DW_FORM_sec_offset, DW_FORM_exprloc, DW_FORM_flag_present, DW_FORM_ref_sig8}
+use Rattle.om_die.specs.declared.attribute_form.Form.{Form}
+use Rattle.om_die.specs.declared.attribute_form.Form.TheVariants as f
 
 -- ---- codes
 
 abbrev code_of : Form → ℕ
-code_of f.Addr = 0x01
-code_of f.Block2 = 0x03
-code_of f.Block4 = 0x04
-code_of f.Data2 = 0x05
-code_of f.Data4 = 0x06
-code_of f.Data8 = 0x07
-code_of f.String = 0x08
-code_of f.Block = 0x09
-code_of f.Block1 = 0x0a
-code_of f.Data1 = 0x0b
-code_of f.Flag = 0x0c
-code_of f.Sdata = 0x0d
-code_of f.Strp = 0x0e
-code_of f.Udata = 0x0f
-code_of f.RefAddr = 0x10
-code_of f.Ref1 = 0x11
-code_of f.Ref2 = 0x12
-code_of f.Ref4 = 0x13
-code_of f.Ref8 = 0x14
-code_of f.RefUdata = 0x15
-code_of f.Indirect = 0x16
-code_of f.SecOffset = 0x17
-code_of f.Exprloc = 0x18
-code_of f.FlagPresent = 0x19
-code_of f.RefSig8 = 0x20
+code_of f.Addr = DW_FORM_addr
+code_of f.Block2 = DW_FORM_block2
+code_of f.Block4 = DW_FORM_block4
+code_of f.Data2 = DW_FORM_data2
+code_of f.Data4 = DW_FORM_data4
+code_of f.Data8 = DW_FORM_data8
+code_of f.String = DW_FORM_string
+code_of f.Block = DW_FORM_block
+code_of f.Block1 = DW_FORM_block1
+code_of f.Data1 = DW_FORM_data1
+code_of f.Flag = DW_FORM_flag
+code_of f.Sdata = DW_FORM_sdata
+code_of f.Strp = DW_FORM_strp
+code_of f.Udata = DW_FORM_udata
+code_of f.RefAddr = DW_FORM_ref_addr
+code_of f.Ref1 = DW_FORM_ref1
+code_of f.Ref2 = DW_FORM_ref2
+code_of f.Ref4 = DW_FORM_ref4
+code_of f.Ref8 = DW_FORM_ref8
+code_of f.RefUdata = DW_FORM_ref_udata
+code_of f.Indirect = DW_FORM_indirect
+code_of f.SecOffset = DW_FORM_sec_offset
+code_of f.Exprloc = DW_FORM_exprloc
+code_of f.FlagPresent = DW_FORM_flag_present
+code_of f.RefSig8 = DW_FORM_ref_sig8
 
 pub each_form_has_code : EachFormHasCode
 unfolding form_of
-each_form_has_code f.Addr = (0x01, refl)
-each_form_has_code f.Block2 = (0x03, refl)
-each_form_has_code f.Block4 = (0x04, refl)
-each_form_has_code f.Data2 = (0x05, refl)
-each_form_has_code f.Data4 = (0x06, refl)
-each_form_has_code f.Data8 = (0x07, refl)
-each_form_has_code f.String = (0x08, refl)
-each_form_has_code f.Block = (0x09, refl)
-each_form_has_code f.Block1 = (0x0a, refl)
-each_form_has_code f.Data1 = (0x0b, refl)
-each_form_has_code f.Flag = (0x0c, refl)
-each_form_has_code f.Sdata = (0x0d, refl)
-each_form_has_code f.Strp = (0x0e, refl)
-each_form_has_code f.Udata = (0x0f, refl)
-each_form_has_code f.RefAddr = (0x10, refl)
-each_form_has_code f.Ref1 = (0x11, refl)
-each_form_has_code f.Ref2 = (0x12, refl)
-each_form_has_code f.Ref4 = (0x13, refl)
-each_form_has_code f.Ref8 = (0x14, refl)
-each_form_has_code f.RefUdata = (0x15, refl)
-each_form_has_code f.Indirect = (0x16, refl)
-each_form_has_code f.SecOffset = (0x17, refl)
-each_form_has_code f.Exprloc = (0x18, refl)
-each_form_has_code f.FlagPresent = (0x19, refl)
-each_form_has_code f.RefSig8 = (0x20, refl)
+each_form_has_code f.Addr = (DW_FORM_addr, refl)
+each_form_has_code f.Block2 = (DW_FORM_block2, refl)
+each_form_has_code f.Block4 = (DW_FORM_block4, refl)
+each_form_has_code f.Data2 = (DW_FORM_data2, refl)
+each_form_has_code f.Data4 = (DW_FORM_data4, refl)
+each_form_has_code f.Data8 = (DW_FORM_data8, refl)
+each_form_has_code f.String = (DW_FORM_string, refl)
+each_form_has_code f.Block = (DW_FORM_block, refl)
+each_form_has_code f.Block1 = (DW_FORM_block1, refl)
+each_form_has_code f.Data1 = (DW_FORM_data1, refl)
+each_form_has_code f.Flag = (DW_FORM_flag, refl)
+each_form_has_code f.Sdata = (DW_FORM_sdata, refl)
+each_form_has_code f.Strp = (DW_FORM_strp, refl)
+each_form_has_code f.Udata = (DW_FORM_udata, refl)
+each_form_has_code f.RefAddr = (DW_FORM_ref_addr, refl)
+each_form_has_code f.Ref1 = (DW_FORM_ref1, refl)
+each_form_has_code f.Ref2 = (DW_FORM_ref2, refl)
+each_form_has_code f.Ref4 = (DW_FORM_ref4, refl)
+each_form_has_code f.Ref8 = (DW_FORM_ref8, refl)
+each_form_has_code f.RefUdata = (DW_FORM_ref_udata, refl)
+each_form_has_code f.Indirect = (DW_FORM_indirect, refl)
+each_form_has_code f.SecOffset = (DW_FORM_sec_offset, refl)
+each_form_has_code f.Exprloc = (DW_FORM_exprloc, refl)
+each_form_has_code f.FlagPresent = (DW_FORM_flag_present, refl)
+each_form_has_code f.RefSig8 = (DW_FORM_ref_sig8, refl)
 
 -- each row has the code of its form
 abbrev are_codes : List (ℕ × Form) → Bool
@@ -193,5 +194,5 @@ each_form_spells around f.Ref8 text = some_by (IsNumber 8) (λ n. v.Target (capp
 each_form_spells around f.RefUdata text = some_by IsUleb (λ n. v.Target (capped (around.unit + n))) some_unsigned
 each_form_spells around f.RefSig8 text = some_by (IsNumber 8) (λ n. v.Elsewhere) some_8
 each_form_spells around f.Indirect text =
-    let code = unsigned_code 0x19 (omega arith) in
-    (code.0 ++ [], v.Flag true, record { code = 0x19; front = code.0; back = []; parts = refl; spelled = code.1; value = (refl, refl) })
+    let code = unsigned_code DW_FORM_flag_present (omega arith) in
+    (code.0 ++ [], v.Flag true, record { code = DW_FORM_flag_present; front = code.0; back = []; parts = refl; spelled = code.1; value = (refl, refl) })

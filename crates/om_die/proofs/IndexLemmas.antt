@@ -10,7 +10,7 @@ use Rattle.om_base.specs.Reading.{EachFrom}
 use Rattle.om_base.proofs.ReadingLaws.{each_more}
 use Rattle.om_die.specs.Abbreviations.{Entry, IsEntry, abbreviation_of}
 use Rattle.om_die.specs.Declarations.{IsFront}
-use Rattle.om_die.specs.Index.{IsIndex}
+use Rattle.om_die.specs.AbbreviationIndex.{IsIndex}
 use Rattle.om_die.specs.declared.abbreviation.Abbreviation.{Abbreviation}
 use Rattle.om_die.proofs.TableLaws.{some_entry}
 

@@ -1,4 +1,4 @@
-pub mod EntryLaws
+pub mod DieLaws
 pub mod HeadLaws
 pub mod UnitLaws
 pub mod ReferenceLaws

@@ -12,7 +12,7 @@ use Rattle.om_base.specs.declared.numbers.Num.TheVariants.{Short}
 use Rattle.om_base.specs.declared.span.Span.{Span}
 use Rattle.om_base.proofs.PlaceLemmas.{position_cons}
 use Rattle.om_base.proofs.ReadingLaws.{ok_is}
-use Rattle.om_die.specs.Ranges.{entries_in, first_entry, is_end, range_list, ranges_of, word}
+use Rattle.om_die.specs.RangeLists.{entries_in, first_entry, is_end, range_list, ranges_of, word}
 use Rattle.om_die.specs.Readers.{fixed}
 use Rattle.om_die.specs.declared.attributes.Gap.{Gap}
 use Rattle.om_die.specs.declared.attributes.Gap.TheVariants as gap

@@ -9,15 +9,16 @@ use Rattle.std.proofs.lemmas.List.Folds.{find-append}
 use Rattle.std.proofs.lemmas.List.{at_drop_all, at_drop_more}
 use Rattle.std.proofs.lemmas.Bool.{le-leb, le-ltb, leb-false, leb-true, lt-leb}
 use Rattle.om_base.specs.Reading.{EachFrom}
-use Rattle.om_die.specs.Pieces.{AreParts, skips_in}
+use Rattle.om_die.specs.Constants.{DW_AT_abstract_origin, DW_AT_specification, DW_AT_type}
+use Rattle.om_die.specs.UnitList.{AreParts, skips_in}
 use Rattle.om_die.specs.References.{AreRising, has_lost_by, is_lost_by, is_skipped, is_within, settled_attribute}
 use Rattle.om_die.specs.Refusals.{IsTargetRefused}
 use Rattle.om_die.specs.Units.{AreUnits, IsPiece, Piece, Read, Sections, Skipped, attribute_of, dies_of_units, first_lost, has_lost, is_elsewhere, is_lost, settled, settled_die, settled_in, settled_unit, skipped_in, units_in}
-use Rattle.om_die.specs.Value.{Attribute, Value}
-use Rattle.om_die.specs.Value as v
+use Rattle.om_die.specs.AttributeValue.{Attribute, Value}
+use Rattle.om_die.specs.AttributeValue as v
 use Rattle.om_die.specs.declared.die.Die.{Die}
 use Rattle.om_die.specs.declared.fault.DieFault.TheVariants as d
-use Rattle.om_die.specs.declared.pieces.Parts.{Parts}
+use Rattle.om_die.specs.declared.unit_list.Parts.{Parts}
 use Rattle.om_die.specs.declared.skipped.Skipped as skip
 use Rattle.om_die.specs.declared.unit.Unit.{Unit}
 use Rattle.om_die.specs.declared.unit.Units.{Units}
@@ -130,7 +131,7 @@ lost_is dies (Some (v.Flag b)) = refl
 lost_is dies (Some v.Elsewhere) = refl
 
 pub has_lost_is : (dies : List Die) (die : Die) → has_lost_by (stands_in dies) die ≡ has_lost dies die
-has_lost_is dies die = rw (lost_is dies (attribute_of 0x31 die.attrs), lost_is dies (attribute_of 0x47 die.attrs), lost_is dies (attribute_of 0x49 die.attrs)) refl
+has_lost_is dies die = rw (lost_is dies (attribute_of DW_AT_abstract_origin die.attrs), lost_is dies (attribute_of DW_AT_specification die.attrs), lost_is dies (attribute_of DW_AT_type die.attrs)) refl
 
 pub lost_by : (stands : ℕ → Bool) (dies : List Die) → ((offset : ℕ) → stands offset ≡ list_any (λ die. nat_eq die.at offset) dies) → has_lost_by stands ≡ has_lost dies
 lost_by stands dies known = ap has_lost_by (fun_ext known) ∙ fun_ext (has_lost_is dies)

@@ -7,7 +7,7 @@ use Rattle.om_base.proofs.LebLaws.{uleb_reads}
 use Rattle.om_die.specs.Abbreviations.{abbreviation_of}
 use Rattle.om_die.specs.Entries.{AreDies, Close, Item, depth_after, die_of}
 use Rattle.om_die.specs.Forms.{Around}
-use Rattle.om_die.specs.Pieces.{AreParts, IsFirstUnit, parts_of, with_piece}
+use Rattle.om_die.specs.UnitList.{AreParts, IsFirstUnit, parts_of, with_piece}
 use Rattle.om_die.specs.Refusals.{AreDiesRefused, HasNoCode, IsItemRefused, IsRefusal, IsSectionRefused, IsUnitRefused}
 use Rattle.om_die.specs.Steps.{IsCode, IsFirst, lack_fault}
 use Rattle.om_die.specs.Units.{AreUnits, Piece, Read, Sections, Skipped, debug_abbrev_offset, first_lost, head_fault, is_read, most_dies, settled_in, skipped_in, unit_length, version}
@@ -16,12 +16,12 @@ use Rattle.om_die.specs.declared.attributes.Lack.TheVariants as l
 use Rattle.om_die.specs.declared.die.Die.{Die}
 use Rattle.om_die.specs.declared.fault.DieFault.{DieFault}
 use Rattle.om_die.specs.declared.fault.DieFault.TheVariants as d
-use Rattle.om_die.specs.declared.pieces.Parts.{Parts}
+use Rattle.om_die.specs.declared.unit_list.Parts.{Parts}
 use Rattle.om_die.specs.declared.unit.Unit.{Unit}
 use Rattle.om_die.specs.declared.unit.Units.{Units}
 use Rattle.om_die.proofs.AttributeLaws.{list_or_gap}
-use Rattle.om_die.proofs.EntryLaws.{close_first, entry_first, has_code, refused_many, refused_shape}
-use Rattle.om_die.proofs.EntryLaws as entry
+use Rattle.om_die.proofs.DieLaws.{close_first, entry_first, has_code, refused_many, refused_shape}
+use Rattle.om_die.proofs.DieLaws as entry
 use Rattle.om_die.proofs.ReaderLemmas.{absent}
 use Rattle.om_die.proofs.TableLaws.{some_table}
 use Rattle.om_die.proofs.UnitLaws.{first_skipped, first_unit, refused_unit}

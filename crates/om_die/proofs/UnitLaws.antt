@@ -10,17 +10,17 @@ use Rattle.om_die.specs.Abbreviations.{abbreviation_of}
 use Rattle.om_die.specs.Abbreviations as table
 use Rattle.om_die.specs.Entries.{AreDies}
 use Rattle.om_die.specs.Forms.{Around}
-use Rattle.om_die.specs.Index.{IsIndex, find_in}
-use Rattle.om_die.specs.Pieces.{AreParts, AreTables, IsFirstUnit, parts_of, piece_of, skips_in, with_piece}
+use Rattle.om_die.specs.AbbreviationIndex.{IsIndex, find_in}
+use Rattle.om_die.specs.UnitList.{AreParts, AreTables, IsFirstUnit, parts_of, piece_of, skips_in, with_piece}
 use Rattle.om_die.specs.Refusals.{AreDiesRefused, IsSectionRefused, IsUnitRefused}
 use Rattle.om_die.specs.Units.{IsPiece, IsWhole, Piece, Read, Sections, Skipped, debug_abbrev_offset, dies_in, head_fault, is_read, most_dies, unit_length, units_in, version}
 use Rattle.om_die.specs.declared.fault.DieFault.{DieFault}
 use Rattle.om_die.specs.declared.fault.DieFault.TheVariants as d
-use Rattle.om_die.specs.declared.pieces.Part.{Part}
-use Rattle.om_die.specs.declared.pieces.Part.TheVariants as part
-use Rattle.om_die.specs.declared.pieces.Parts.{Parts}
-use Rattle.om_die.specs.declared.table.Table.{Table}
-use Rattle.om_die.specs.declared.tables.Tables.{Tables}
+use Rattle.om_die.specs.declared.unit_list.Part.{Part}
+use Rattle.om_die.specs.declared.unit_list.Part.TheVariants as part
+use Rattle.om_die.specs.declared.unit_list.Parts.{Parts}
+use Rattle.om_die.specs.declared.abbreviation_table.Table.{Table}
+use Rattle.om_die.specs.declared.abbreviation_tables.Tables.{Tables}
 use Rattle.om_die.specs.declared.unit.Unit.{Unit}
 use Rattle.om_die.proofs.HeadLaws.{lawful, whole_cut}
 

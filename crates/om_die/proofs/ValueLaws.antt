@@ -20,12 +20,12 @@ use Rattle.om_base.proofs.ReadingLaws.{in_turn, ok_is}
 use Rattle.om_die.specs.Forms.{Around, HasLostForm, HasLostString, IsBlock, IsFormRefused, IsIndirect, IsPlain, IsPlainOf, IsPlainRefused, IsPresent, IsStringOffset, IsValue, capped, form_of}
 use Rattle.om_die.specs.Laws.{OneValue, RefusedForGood, RefusedIsAbsent}
 use Rattle.om_die.specs.Readers.{block, block_of, by, failing, fixed, indirect, plain_in, plain_of, signed, text, text_at, unsigned, value_in}
-use Rattle.om_die.specs.Value.{Value}
-use Rattle.om_die.specs.Value as v
+use Rattle.om_die.specs.AttributeValue.{Value}
+use Rattle.om_die.specs.AttributeValue as v
 use Rattle.om_die.specs.declared.attributes.Gap.{Gap}
 use Rattle.om_die.specs.declared.attributes.Gap.TheVariants as gap
-use Rattle.om_die.specs.declared.form.Form.{Form}
-use Rattle.om_die.specs.declared.form.Form.TheVariants as f
+use Rattle.om_die.specs.declared.attribute_form.Form.{Form}
+use Rattle.om_die.specs.declared.attribute_form.Form.TheVariants as f
 use Rattle.om_die.proofs.ReaderLemmas.{absent, reading_once, same_reads, second_ok, second_why}
 
 -- ---- what values are made of

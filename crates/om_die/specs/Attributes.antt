@@ -1,7 +1,7 @@
 -- The attributes of an entry: DWARF 4, section 7.5.2 "Debugging Information Entry".
 use Rattle.std.specs.Prelude.{◌≡◌, ℕ, List, [], ◌∷◌, ◌++◌, ◌⊎◌}
 use Rattle.om_die.specs.Forms.{Around, IsValue, IsFormRefused, HasNoValue}
-use Rattle.om_die.specs.Value.{Value, Attribute}
+use Rattle.om_die.specs.AttributeValue.{Value, Attribute}
 use Rattle.om_die.specs.declared.abbreviation.Specification.{Specification}
 use Rattle.om_die.specs.declared.attributes.Gap.{Gap}
 use Rattle.om_die.specs.declared.attributes.Gap.TheVariants as gap

@@ -5,7 +5,7 @@ use Rattle.om_base.specs.Leb.{IsUleb}
 use Rattle.om_base.specs.Reading.{EachFrom}
 use Rattle.om_die.specs.Attributes.{AreAttributes}
 use Rattle.om_die.specs.Forms.{Around}
-use Rattle.om_die.specs.Value.{Attribute}
+use Rattle.om_die.specs.AttributeValue.{Attribute}
 use Rattle.om_die.specs.declared.abbreviation.Abbreviation.{Abbreviation}
 use Rattle.om_die.specs.declared.die.Die.{Die}
 

@@ -2,39 +2,40 @@
 use Rattle.std.specs.Prelude.{◌≡◌, ◌≢◌, ℕ, ◌+◌, ◌^◌, ◌-◌, true, not, nat_eq, if◌then◌else◌, min, List, [], ◌∷◌, ◌++◌, length, drop, All, Option, Some, None}
 use Rattle.om_base.specs.Leb.{IsUleb, IsSleb}
 use Rattle.om_base.specs.Reading.{IsNumber, IsText}
-use Rattle.om_die.specs.Value.{Value}
-use Rattle.om_die.specs.Value as v
-use Rattle.om_die.specs.declared.form.Form.{Form}
-use Rattle.om_die.specs.declared.form.Form.TheVariants as f
+use Rattle.om_die.specs.AttributeValue.{Value}
+use Rattle.om_die.specs.AttributeValue as v
+use Rattle.om_die.specs.Constants.{DW_FORM_addr, DW_FORM_block2, DW_FORM_block4, DW_FORM_data2, DW_FORM_data4, DW_FORM_data8, DW_FORM_string, DW_FORM_block, DW_FORM_block1, DW_FORM_data1, DW_FORM_flag, DW_FORM_sdata, DW_FORM_strp, DW_FORM_udata, DW_FORM_ref_addr, DW_FORM_ref1, DW_FORM_ref2, DW_FORM_ref4, DW_FORM_ref8, DW_FORM_ref_udata, DW_FORM_indirect, DW_FORM_sec_offset, DW_FORM_exprloc, DW_FORM_flag_present, DW_FORM_ref_sig8}
+use Rattle.om_die.specs.declared.attribute_form.Form.{Form}
+use Rattle.om_die.specs.declared.attribute_form.Form.TheVariants as f
 
 -- the forms by their codes
 abbrev pub form_codes : List (ℕ × Form)
 form_codes =
-    (0x01, f.Addr)
-    ∷ (0x03, f.Block2)
-    ∷ (0x04, f.Block4)
-    ∷ (0x05, f.Data2)
-    ∷ (0x06, f.Data4)
-    ∷ (0x07, f.Data8)
-    ∷ (0x08, f.String)
-    ∷ (0x09, f.Block)
-    ∷ (0x0a, f.Block1)
-    ∷ (0x0b, f.Data1)
-    ∷ (0x0c, f.Flag)
-    ∷ (0x0d, f.Sdata)
-    ∷ (0x0e, f.Strp)
-    ∷ (0x0f, f.Udata)
-    ∷ (0x10, f.RefAddr)
-    ∷ (0x11, f.Ref1)
-    ∷ (0x12, f.Ref2)
-    ∷ (0x13, f.Ref4)
-    ∷ (0x14, f.Ref8)
-    ∷ (0x15, f.RefUdata)
-    ∷ (0x16, f.Indirect)
-    ∷ (0x17, f.SecOffset)
-    ∷ (0x18, f.Exprloc)
-    ∷ (0x19, f.FlagPresent)
-    ∷ (0x20, f.RefSig8)
+    (DW_FORM_addr, f.Addr)
+    ∷ (DW_FORM_block2, f.Block2)
+    ∷ (DW_FORM_block4, f.Block4)
+    ∷ (DW_FORM_data2, f.Data2)
+    ∷ (DW_FORM_data4, f.Data4)
+    ∷ (DW_FORM_data8, f.Data8)
+    ∷ (DW_FORM_string, f.String)
+    ∷ (DW_FORM_block, f.Block)
+    ∷ (DW_FORM_block1, f.Block1)
+    ∷ (DW_FORM_data1, f.Data1)
+    ∷ (DW_FORM_flag, f.Flag)
+    ∷ (DW_FORM_sdata, f.Sdata)
+    ∷ (DW_FORM_strp, f.Strp)
+    ∷ (DW_FORM_udata, f.Udata)
+    ∷ (DW_FORM_ref_addr, f.RefAddr)
+    ∷ (DW_FORM_ref1, f.Ref1)
+    ∷ (DW_FORM_ref2, f.Ref2)
+    ∷ (DW_FORM_ref4, f.Ref4)
+    ∷ (DW_FORM_ref8, f.Ref8)
+    ∷ (DW_FORM_ref_udata, f.RefUdata)
+    ∷ (DW_FORM_indirect, f.Indirect)
+    ∷ (DW_FORM_sec_offset, f.SecOffset)
+    ∷ (DW_FORM_exprloc, f.Exprloc)
+    ∷ (DW_FORM_flag_present, f.FlagPresent)
+    ∷ (DW_FORM_ref_sig8, f.RefSig8)
     ∷ []
 
 -- the form of the first row with this code

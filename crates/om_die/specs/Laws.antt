@@ -8,14 +8,14 @@ use Rattle.om_die.specs.Attributes.{AreAttributes, HasGap}
 use Rattle.om_die.specs.Entries.{AreDies, IsEntry}
 use Rattle.om_die.specs.Forms.{Around, IsValue, IsFormRefused, HasNoValue, form_of}
 use Rattle.om_die.specs.Refusals.{HasCode}
-use Rattle.om_die.specs.Value.{Value, Attribute}
-use Rattle.om_die.specs.Value as v
+use Rattle.om_die.specs.AttributeValue.{Value, Attribute}
+use Rattle.om_die.specs.AttributeValue as v
 use Rattle.om_die.specs.declared.abbreviation.Abbreviation.{Abbreviation}
 use Rattle.om_die.specs.declared.abbreviation.Specification.{Specification}
 use Rattle.om_die.specs.declared.attributes.Gap.{Gap}
 use Rattle.om_die.specs.declared.die.Die.{Die}
-use Rattle.om_die.specs.declared.form.Form.{Form}
-use Rattle.om_die.specs.declared.form.Form.TheVariants as f
+use Rattle.om_die.specs.declared.attribute_form.Form.{Form}
+use Rattle.om_die.specs.declared.attribute_form.Form.TheVariants as f
 
 -- two things in front of the same bytes are the same, in the same bytes
 abbrev pub HasOneReading : {X : Type 0} → (List ℕ → X → Type 0) → Type 0

@@ -5,14 +5,14 @@ use Rattle.om_base.specs.Leb.{uleb_of, sleb_of}
 use Rattle.om_base.specs.Reading.{Reader, with_rest, first_then, number_of, text_of}
 use Rattle.om_base.specs.declared.numbers.Num.{Num}
 use Rattle.om_die.specs.Forms.{Around, capped, form_of}
-use Rattle.om_die.specs.Value.{Value}
-use Rattle.om_die.specs.Value as v
+use Rattle.om_die.specs.AttributeValue.{Value}
+use Rattle.om_die.specs.AttributeValue as v
 use Rattle.om_die.specs.declared.attributes.Gap.{Gap}
 use Rattle.om_die.specs.declared.attributes.Gap.TheVariants as gap
 use Rattle.om_die.specs.declared.fields.Width.{Width}
 use Rattle.om_die.specs.declared.fields.Width.TheVariants as w
-use Rattle.om_die.specs.declared.form.Form.{Form}
-use Rattle.om_die.specs.declared.form.Form.TheVariants as f
+use Rattle.om_die.specs.declared.attribute_form.Form.{Form}
+use Rattle.om_die.specs.declared.attribute_form.Form.TheVariants as f
 
 -- ---- what values are made of
 

@@ -2,8 +2,9 @@
 use Rattle.std.specs.Prelude.{ℕ, ◌+◌, ◌≤◌, Bool, false, ◌&&◌, not, nat_le, nat_lt, List, [], ◌∷◌, Option, Some}
 use Rattle.std.specs.List.{list_any}
 use Rattle.om_die.specs.Units.{attribute_of, settled}
-use Rattle.om_die.specs.Value.{Value, Attribute}
-use Rattle.om_die.specs.Value as v
+use Rattle.om_die.specs.AttributeValue.{Value, Attribute}
+use Rattle.om_die.specs.AttributeValue as v
+use Rattle.om_die.specs.Constants.{DW_AT_abstract_origin, DW_AT_specification, DW_AT_type}
 use Rattle.om_die.specs.declared.die.Die.{Die}
 use Rattle.om_die.specs.declared.skipped.Skipped.{Skipped}
 
@@ -35,4 +36,4 @@ is_lost_by stands value = false
 
 -- an entry refers by DW_AT_abstract_origin, DW_AT_specification or DW_AT_type to an offset that isn't one of these
 abbrev pub has_lost_by : (ℕ → Bool) → Die → Bool
-has_lost_by stands die = list_any (λ name. is_lost_by stands (attribute_of name die.attrs)) (0x31 ∷ 0x47 ∷ 0x49 ∷ [])
+has_lost_by stands die = list_any (λ name. is_lost_by stands (attribute_of name die.attrs)) (DW_AT_abstract_origin ∷ DW_AT_specification ∷ DW_AT_type ∷ [])

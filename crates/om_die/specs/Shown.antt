@@ -1,8 +1,8 @@
 -- How contracts see values and sections.
 use Rattle.std.specs.Prelude.{ℕ, List}
 use Rattle.om_die.specs.Units.{Sections}
-use Rattle.om_die.specs.Value.{Value}
-use Rattle.om_die.specs.Value as v
+use Rattle.om_die.specs.AttributeValue.{Value}
+use Rattle.om_die.specs.AttributeValue as v
 use Rattle.om_die.specs.declared.attribute.AttrValue.{AttrValue}
 use Rattle.om_die.specs.declared.attribute.AttrValue.TheVariants as a
 

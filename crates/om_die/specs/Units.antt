@@ -8,9 +8,10 @@ use Rattle.om_base.specs.Numbers.{number_at}
 use Rattle.om_base.specs.Reading.{EachFrom}
 use Rattle.om_die.specs.Abbreviations.{IsTable, abbreviation_of}
 use Rattle.om_die.specs.Abbreviations as table
+use Rattle.om_die.specs.Constants.{DW_AT_abstract_origin, DW_AT_specification, DW_AT_type}
 use Rattle.om_die.specs.Entries.{AreDies}
-use Rattle.om_die.specs.Value.{Value, Attribute}
-use Rattle.om_die.specs.Value as v
+use Rattle.om_die.specs.AttributeValue.{Value, Attribute}
+use Rattle.om_die.specs.AttributeValue as v
 use Rattle.om_die.specs.declared.die.Die.{Die}
 use Rattle.om_die.specs.declared.fault.DieFault.{DieFault}
 use Rattle.om_die.specs.declared.fault.DieFault.TheVariants as fault
@@ -161,7 +162,7 @@ is_lost dies value = false
 
 -- an entry refers by DW_AT_abstract_origin, DW_AT_specification or DW_AT_type to an offset at which no entry stands
 abbrev pub has_lost : List Die → Die → Bool
-has_lost dies die = list_any (λ name. is_lost dies (attribute_of name die.attrs)) (0x31 ∷ 0x47 ∷ 0x49 ∷ [])
+has_lost dies die = list_any (λ name. is_lost dies (attribute_of name die.attrs)) (DW_AT_abstract_origin ∷ DW_AT_specification ∷ DW_AT_type ∷ [])
 
 -- the first entry that does
 unfoldable pub first_lost : List Unit → Option Die

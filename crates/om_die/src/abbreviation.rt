@@ -1,6 +1,6 @@
 //! Abbreviations: DWARF 4, section 7.5.3.
 
-use crate::form::Form;
+use crate::attribute_form::Form;
 use om_base::Items;
 
 /// An attribute of an abbreviation: its name, and the form of its value.

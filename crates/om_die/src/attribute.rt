@@ -1,5 +1,8 @@
 //! Attributes with their values: DWARF 4, section 2.2 and section 7.5.4.
 
+ghost use Rattle.std.specs.Prelude.{◌≡◌};
+ghost use Rattle.om_die.specs.Shown.{value_of};
+
 use om_base::Name;
 use std::marker::Model;
 
@@ -27,6 +30,25 @@ pub enum AttrValue<'a> {
     Elsewhere,
 }
 
+impl<'a> AttrValue<'a> {
+    /// The same value.
+    pub(crate) fn again(&self) -> AttrValue<'a>
+        ensures { value_of result ≡ value_of self.now }
+    {
+        match self {
+            AttrValue::Addr(address) => AttrValue::Addr(*address),
+            AttrValue::Number(number) => AttrValue::Number(*number),
+            AttrValue::Signed(number) => AttrValue::Signed(*number),
+            AttrValue::Text(text) => AttrValue::Text(Name::of(text.bytes())),
+            AttrValue::Block(bytes) => AttrValue::Block(bytes),
+            AttrValue::Target(offset) => AttrValue::Target(*offset),
+            AttrValue::Offset(offset) => AttrValue::Offset(*offset),
+            AttrValue::Flag(flag) => AttrValue::Flag(*flag),
+            AttrValue::Elsewhere => AttrValue::Elsewhere,
+        }
+    }
+}
+
 /// An attribute of an entry.
 #[derive(Debug, Drop)]
 pub struct Attr<'a> {
@@ -37,7 +59,7 @@ pub struct Attr<'a> {
 
 // Clauses see the name and the value, borrowed pieces as their bytes.
 impl<'a> Model for Attr<'a> {
-    ghost use Rattle.om_die.specs.Value.{Attribute};
+    ghost use Rattle.om_die.specs.AttributeValue.{Attribute};
 
     ghost Value = { Attribute };
 

@@ -5,8 +5,8 @@ ghost use Rattle.om_die.specs.Attributes.{AreAttributes, HasGap};
 
 use crate::abbreviation::Specification;
 use crate::attribute::Attr;
+use crate::attribute_value::read_value;
 use crate::context::Context;
-use crate::value::read_value;
 use om_base::Items;
 use std::alloc::Global;
 

@@ -8,9 +8,9 @@ ghost use Rattle.om_die.specs.Declarations.{IsFront, head_in, pair_in};
 ghost use Rattle.om_die.specs.Forms.{capped};
 
 use crate::abbreviation::{Abbreviation, Specification};
+use crate::attribute_form::Form;
 use crate::attributes::Gap;
 use crate::fields::{first_u8, first_uleb};
-use crate::form::Form;
 use om_base::{Items, NoMemory};
 use std::alloc::Global;
 

@@ -7,6 +7,7 @@ ghost use Rattle.om_die.specs.Units.{attribute_of};
 
 use crate::attribute::{Attr, AttrValue};
 use om_base::Items;
+use std::marker::Model;
 
 /// A debugging information entry.
 #[derive(Debug, Drop)]
@@ -17,16 +18,25 @@ pub struct Die<'a> {
     pub depth: u32,
     /// `DW_TAG_..`.
     pub tag: u32,
-    /// The attributes, in their order; where a name stands twice the first counts.
-    pub attrs: Items<Attr<'a>>,
+    /// The attributes, in their order.
+    pub(crate) attrs: Items<Attr<'a>>,
+}
+
+// Clauses see what the entry says, however it is kept.
+impl<'a> Model for Die<'a> {
+    ghost use Rattle.om_die.specs.Die as spec;
+
+    ghost Value = { spec.Die };
+
+    ghost view = { λ it. record { at = it.at; depth = it.depth; tag = it.tag; attrs = it.attrs } };
 }
 
 impl<'a> Die<'a> {
-    /// The value of the attribute `name`, `DW_AT_..`.
-    pub fn attribute(&self, name: u32) -> Option<&AttrValue<'a>>
-        ensures { option_map (λ value. value_of value.now) result ≡ attribute_of name self.now.attrs }
+    /// The value of the attribute `name`, `DW_AT_..`; where the name stands twice the first counts.
+    pub fn attribute(&self, name: u32) -> Option<AttrValue<'a>>
+        ensures { option_map value_of result ≡ attribute_of name self.now.attrs }
     {
         let found = self.attrs.as_slice().iter().find(|attr| attr.name == name)?;
-        Some(&found.value)
+        Some(found.value.again())
     }
 }

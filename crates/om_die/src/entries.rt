@@ -2,16 +2,16 @@
 
 ghost use Rattle.std.specs.Prelude.{◌≡◌, ◌⊎◌, ◌+◌, ◌≤◌, ◌<◌, ◌^◌, ◌++◌, length, IfOk, IfErr, MatchOption};
 ghost use Rattle.om_die.specs.Entries.{AreDies, depth_after, die_of};
-ghost use Rattle.om_die.specs.Index.{find_in};
+ghost use Rattle.om_die.specs.AbbreviationIndex.{find_in};
 ghost use Rattle.om_die.specs.Refusals.{AreDiesRefused, HasNoCode, IsItemRefused};
 ghost use Rattle.om_die.specs.Steps.{IsCode, IsFirst, item_of, lack_fault};
 
+use crate::abbreviation_table::Table;
 use crate::attribute::Attr;
 use crate::attributes::{Gap, Lack, read_attributes};
 use crate::context::Context;
 use crate::die::Die;
 use crate::fault::DieFault;
-use crate::table::Table;
 use om_base::{Items, NoMemory, uleb};
 use std::alloc::Global;
 

@@ -6,9 +6,9 @@ ghost use Rattle.om_die.specs.Units.{settled_die, settled_unit};
 
 use crate::attribute::{Attr, AttrValue};
 use crate::die::Die;
-use crate::pieces::Parts;
 use crate::skipped::{Skipped, is_elsewhere};
 use crate::unit::{Unit, Units};
+use crate::unit_list::Parts;
 use om_base::{Items, NoMemory};
 use std::alloc::Global;
 

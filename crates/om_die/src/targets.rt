@@ -14,17 +14,12 @@ ghost use Rattle.om_die.specs.Units as spec;
 ghost use Rattle.om_die.specs.Units.{dies_of_units};
 
 use crate::attribute::AttrValue;
+use crate::constants::{DW_AT_ABSTRACT_ORIGIN, DW_AT_SPECIFICATION, DW_AT_TYPE};
 use crate::die::Die;
 use crate::unit::Unit;
 use om_base::NoMemory;
 use std::alloc::Global;
 use std::collections::BTreeSet;
-
-const ABSTRACT_ORIGIN: u32 = 0x31;
-
-const SPECIFICATION: u32 = 0x47;
-
-const TYPE: u32 = 0x49;
 
 /// Adds the offsets of the entries.
 fn add_dies(offsets: &mut BTreeSet<u32>, dies: &[Die]) -> Result<(), NoMemory>
@@ -50,11 +45,11 @@ fn offsets_of(alloc: Global, units: &[Unit]) -> Result<BTreeSet<u32>, NoMemory>
 }
 
 /// Whether a value refers to an offset at which no entry stands.
-fn is_lost(offsets: &BTreeSet<u32>, value: Option<&AttrValue>) -> bool
-    ensures { result ≡ is_lost_by (contains nat_cmp offsets.now) (option_map (λ value. value_of value.now) value.entry) }
+fn is_lost(offsets: &BTreeSet<u32>, value: Option<AttrValue>) -> bool
+    ensures { result ≡ is_lost_by (contains nat_cmp offsets.now) (option_map value_of value.entry) }
 {
     match value {
-        Some(AttrValue::Target(offset)) => !offsets.contains(offset),
+        Some(AttrValue::Target(offset)) => !offsets.contains(&offset),
         _ => false,
     }
 }
@@ -63,9 +58,9 @@ fn is_lost(offsets: &BTreeSet<u32>, value: Option<&AttrValue>) -> bool
 fn has_lost(offsets: &BTreeSet<u32>, die: &Die) -> bool
     ensures { result ≡ has_lost_by (contains nat_cmp offsets.now) die.now }
 {
-    is_lost(offsets, die.attribute(ABSTRACT_ORIGIN))
-        || is_lost(offsets, die.attribute(SPECIFICATION))
-        || is_lost(offsets, die.attribute(TYPE))
+    is_lost(offsets, die.attribute(DW_AT_ABSTRACT_ORIGIN))
+        || is_lost(offsets, die.attribute(DW_AT_SPECIFICATION))
+        || is_lost(offsets, die.attribute(DW_AT_TYPE))
 }
 
 /// The offset of the first of the entries that refers to an offset at which no entry stands.

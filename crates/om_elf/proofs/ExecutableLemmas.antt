@@ -3,8 +3,8 @@ use Rattle.std.proofs.Common.{◌≡◌, ℕ, ◌<◌, ◌≤◌, false, leb, Li
 use Rattle.std.specs.Prelude.{Option, ◌⊎◌, All}
 use Rattle.std.specs.Option.{option_or}
 use Rattle.std.proofs.lemmas.Bool.Decides.{nat_tests}
-use Rattle.om_base.specs.Firsts.{first_of}
-use Rattle.om_elf.specs.Executable.{elf_fault, elf_in, header_faults, table_faults, tables_in, tables_of, unless}
+use Rattle.om_base.specs.Firsts.{first_of, unless}
+use Rattle.om_elf.specs.Executable.{elf_fault, elf_in, header_faults, table_faults, tables_in, tables_of}
 use Rattle.om_elf.specs.Gives.{Gives}
 use Rattle.om_elf.specs.Headers.{file_header, programs_of, sections_of}
 use Rattle.om_elf.specs.Image.{AreLoadable, Image}
@@ -16,7 +16,8 @@ use Rattle.om_elf.specs.declared.fault.ElfFault.{ElfFault}
 use Rattle.om_elf.specs.declared.fault.ElfFault.TheVariants.{NoMemory, TooBig}
 use Rattle.om_elf.specs.declared.file_header.FileHeader.{FileHeader}
 use Rattle.om_elf.specs.declared.tables.Tables.{Tables}
-use Rattle.om_elf.proofs.ListLemmas.{fails_everywhere, neither, none_before}
+use Rattle.om_elf.proofs.ListLemmas.{fails_everywhere, none_before}
+use Rattle.om_base.proofs.FirstLemmas.{neither}
 use Rattle.om_elf.proofs.SegmentLemmas.{images_loadable}
 
 -- ---- answers

@@ -48,11 +48,6 @@ position-append test (x ∷ xs) ys =
 
 -- ---- options
 
--- of two things that may not be there, the first or else the second is none where neither is there
-pub neither : {A : Type 0} (first second : Option A) → option_or first second ≡ None → (first ≡ None) × (second ≡ None)
-neither None second none = (refl, none)
-neither (Some x) second none = absurd (cc)
-
 pub none_before : {A B : Type 0} (f : A → B) (found : Option A) → option_map f found ≡ None → found ≡ None
 none_before f None none = refl
 none_before f (Some x) none = absurd (cc)

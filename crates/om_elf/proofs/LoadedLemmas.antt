@@ -1,19 +1,18 @@
 -- The segments of an executable stand where its file tells, and so the executable does.
-use Rattle.std.proofs.Common.{◌≡◌, ℕ, zero, suc, ◌+◌, ◌*◌, ◌<◌, ◌≤◌, Bool, true, false, cond, not, leb, ◌&&◌, List, [], ◌∷◌, Option, None, map, length, refl, sym, ap, subst, ◌∙◌, arith}
+use Rattle.std.proofs.Common.{◌≡◌, ℕ, zero, suc, ◌+◌, ◌*◌, ◌<◌, ◌≤◌, Bool, true, false, cond, not, leb, ◌&&◌, List, ◌∷◌, None, map, length, refl, sym, ap, subst, ◌∙◌, arith}
 use Rattle.std.specs.Prelude.{All, filter}
-use Rattle.std.specs.List.{AllByRecursion, range_with_len}
+use Rattle.std.specs.List.{range_with_len}
 use Rattle.std.proofs.lemmas.Bool.{leb-true}
 use Rattle.std.proofs.lemmas.Bool.Decides.{nat_tests}
 use Rattle.std.proofs.lemmas.List.Elements.{All-head, All-tail}
 use Rattle.om_base.specs.Firsts.{first_of}
-use Rattle.om_elf.specs.Executable.{elf_in, has_programs, has_sections, header_faults, table_faults, tables_of, unless}
+use Rattle.om_elf.specs.Executable.{elf_in, has_programs, has_sections, header_faults, table_faults, tables_of}
 use Rattle.om_elf.specs.Found.{AreNumbered, ArePrograms, AreSegments, IsFound, IsProgram, IsSegment, Programs, is_loaded}
 use Rattle.om_elf.specs.Headers.{file_header, program_header, programs_of}
 use Rattle.om_elf.specs.Image.{Image}
 use Rattle.om_elf.specs.Piece.{Piece}
 use Rattle.om_elf.specs.Sections.{has_names, pieces_from}
 use Rattle.om_elf.specs.Segments.{image_of, images_of, is_load, is_misplaced}
-use Rattle.om_elf.specs.declared.fault.ElfFault.{ElfFault}
 use Rattle.om_elf.specs.declared.fault.ElfFault.TheVariants.{Short}
 use Rattle.om_elf.specs.declared.fault.ElfFault.TheVariants as fault
 use Rattle.om_elf.specs.declared.file_header.FileHeader.{FileHeader}
@@ -21,7 +20,7 @@ use Rattle.om_elf.specs.declared.program_header.ProgramHeader.{ProgramHeader}
 use Rattle.om_elf.specs.declared.tables.Tables.{Tables}
 use Rattle.om_elf.proofs.ExecutableLemmas.{all_placed, all_readable, elf_in_is, elf_of}
 use Rattle.om_elf.proofs.FoundLemmas.{all_found, range_stands, tells}
-use Rattle.om_elf.proofs.ListLemmas.{neither}
+use Rattle.om_base.proofs.FirstLemmas.{kept_by, none_of}
 
 placed_by : (load lies small ends : Bool) → (load && not (lies && small && ends)) ≡ false → load ≡ true → lies ≡ true
 placed_by true true small ends placed loads = refl
@@ -100,16 +99,6 @@ module _ (file : List ℕ) where
   }
 
 -- ---- what holds where no rule is broken
-
-kept_by : (kept : Bool) (fault : ElfFault) → unless kept fault ≡ None → kept ≡ true
-kept_by true fault none = refl
-kept_by false fault none = absurd cc
-
-none_of : (rules : List (Option ElfFault)) → first_of rules ≡ None → AllByRecursion (λ rule. rule ≡ None) rules
-none_of [] none = tt
-none_of (rule ∷ rules) none =
-    let both = neither rule (first_of rules) none in
-    (both.0, none_of rules both.1)
 
 header_sound : (file : List ℕ) (h : FileHeader) → first_of (header_faults file h) ≡ None
     → (52 ≤ length file) × (has_programs file h ≡ true) × (has_sections file h ≡ true) × (has_names file h ≡ true)

@@ -11,7 +11,8 @@ use Rattle.om_base.proofs.SpanLemmas.{overlap_from, overlap_cons, overlap_of-fro
 use Rattle.om_elf.specs.Image.{AreApart, AreLoadable, FitsMemory, Image, SharesNone}
 use Rattle.om_elf.specs.Segments.{image_of, images_of, is_load, is_misplaced, memory_of, span_of, spans_of}
 use Rattle.om_elf.specs.declared.program_header.ProgramHeader.{ProgramHeader}
-use Rattle.om_elf.proofs.ListLemmas.{All-of_map, fails_everywhere, neither, none_before}
+use Rattle.om_elf.proofs.ListLemmas.{All-of_map, fails_everywhere, none_before}
+use Rattle.om_base.proofs.FirstLemmas.{neither}
 
 -- ---- one segment
 

@@ -1,7 +1,7 @@
 -- Which files can be read as executables, what is wrong with the others, and what an executable gives.
-use Rattle.std.specs.Prelude.{ℕ, ◌+◌, ◌*◌, Bool, ◌&&◌, ◌||◌, nat_eq, nat_le, bit_and, if◌then◌else◌, List, [], ◌∷◌, ◌++◌, length, position, slice_index, Option, Some, None}
+use Rattle.std.specs.Prelude.{ℕ, ◌+◌, ◌*◌, Bool, ◌&&◌, ◌||◌, nat_eq, nat_le, bit_and, List, [], ◌∷◌, ◌++◌, length, position, slice_index, Option}
 use Rattle.std.specs.Option.{option_map}
-use Rattle.om_base.specs.Firsts.{first_of}
+use Rattle.om_base.specs.Firsts.{first_of, unless}
 use Rattle.om_base.specs.Spans.{overlap_of}
 use Rattle.om_elf.specs.Headers.{file_header, programs_of, sections_of}
 use Rattle.om_elf.specs.Sections.{has_names, is_compressed, is_unreadable, names_of, pieces_from}
@@ -36,10 +36,6 @@ has_programs file h =
 abbrev pub has_sections : List ℕ → FileHeader → Bool
 has_sections file h =
     nat_eq h.e_shnum 0 || (nat_eq h.e_shentsize 40 && nat_le (h.e_shoff + 40 * h.e_shnum) (length file))
-
--- a rule's fault, where it is broken
-abbrev pub unless : Bool → ElfFault → Option ElfFault
-unless kept fault = if kept then None else Some fault
 
 -- what each rule of the ELF header says, in their order
 abbrev pub header_faults : List ℕ → FileHeader → List (Option ElfFault)

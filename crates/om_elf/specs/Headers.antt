@@ -1,18 +1,10 @@
 -- The ELF header and the headers that it leads to: System V gABI, chapter 4, "ELF Header" and "Sections", and chapter 5, "Program Header".
-use Rattle.std.specs.Prelude.{ℕ, ◌+◌, ◌*◌, List, map, unwrap_or}
+use Rattle.std.specs.Prelude.{ℕ, ◌+◌, ◌*◌, List, map}
 use Rattle.std.specs.List.{range_with_len}
-use Rattle.om_base.specs.Numbers.{number_at}
+use Rattle.om_base.specs.Numbers.{half, word}
 use Rattle.om_elf.specs.declared.file_header.FileHeader.{FileHeader}
 use Rattle.om_elf.specs.declared.program_header.ProgramHeader.{ProgramHeader}
 use Rattle.om_elf.specs.declared.section_header.SectionHeader.{SectionHeader}
-
--- the number of two bytes at a place of the file, 0 where it ends before
-abbrev pub half : List ℕ → ℕ → ℕ
-half file at = unwrap_or (number_at 2 file at) 0
-
--- the number of four bytes at a place of the file, 0 where it ends before
-abbrev pub word : List ℕ → ℕ → ℕ
-word file at = unwrap_or (number_at 4 file at) 0
 
 -- the ELF header's fields at their offsets
 abbrev pub file_header : List ℕ → FileHeader

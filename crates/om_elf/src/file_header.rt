@@ -6,8 +6,8 @@ ghost use Rattle.om_elf.specs.Executable.{has_class, has_flags, has_magic, has_p
 ghost use Rattle.om_elf.specs.Sections.{has_names, name_section};
 
 use crate::fault::ElfFault;
-use crate::field::{half_at, word_at};
 use crate::section_header::SectionHeader;
+use om_base::{half_at, word_at};
 
 /// The fields of the ELF header that a reader of executables looks at.
 #[derive(Clone, Copy, Debug)]

@@ -4,7 +4,6 @@
 
 mod elf;
 mod fault;
-mod field;
 mod file_header;
 mod overlap;
 mod program_header;

@@ -3,8 +3,7 @@
 ghost use Rattle.std.specs.Prelude.{◌≡◌, ◌+◌, ◌^◌, ◌<◌};
 ghost use Rattle.om_elf.specs.Segments.{has_place, is_load, is_misplaced, span_of};
 
-use crate::field::word_at;
-use om_base::Span;
+use om_base::{Span, word_at};
 
 /// The fields of a program header, but for `p_paddr` and `p_align`, which are not looked at.
 #[derive(Clone, Copy, Debug)]

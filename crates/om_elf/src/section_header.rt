@@ -4,8 +4,8 @@ ghost use Rattle.std.specs.Prelude.{◌≡◌, ◌^◌, ◌<◌, true, length, I
 ghost use Rattle.std.specs.Option.{option_map};
 ghost use Rattle.om_elf.specs.Sections.{bytes_in, has_bytes, is_compressed, is_section, is_unreadable, lies_in, name_in, range_of};
 
-use crate::field::word_at;
 use crate::string_table::StringTable;
+use om_base::word_at;
 
 /// The fields of a section header that a reader of executables looks at.
 #[derive(Clone, Copy, Debug)]

@@ -1,12 +1,12 @@
 //! The variables of a program that a query may name.
 
-use om_base::{Interval, Items, Text};
+use om_base::{Interval, Items, Name};
 
 /// What is known of all the variables of one name.
 #[derive(Debug, Drop)]
-pub struct VarInfo {
-    /// The name, after its function's name and a dot where it is local to one.
-    pub name: Text,
+pub struct VarInfo<'a> {
+    /// The name, a piece of the executable.
+    pub name: Name<'a>,
     /// The numbers that it may hold, where its type is scalar.
     pub scalar: Option<Interval>,
     /// Whether several variables outside all functions have this name and differ in address, size or
@@ -17,4 +17,4 @@ pub struct VarInfo {
 }
 
 /// The variables in order. [`ColumnId::Var`](crate::ColumnId::Var) has a place in this list.
-pub type Catalog = Items<VarInfo>;
+pub type Catalog<'a> = Items<VarInfo<'a>>;

@@ -1,8 +1,8 @@
--- Debugging information as DWARF 4 spells it: section 7.5.
+-- Debugging information as DWARF 4 spells it: section 7.5, and line tables: section 6.2.
 -- Each number that the standard spells in LEB128 is below 128 here, and so is one byte (section 7.6).
-use Rattle.std.specs.Prelude.{ℕ, ◌+◌, List, [], ◌∷◌, ◌++◌, length}
+use Rattle.std.specs.Prelude.{ℕ, ◌+◌, ◌-◌, ◌*◌, List, [], ◌∷◌, ◌++◌, length}
 use Rattle.std.specs.List.{flat_map}
-use Rattle.om_image.specs.DwarfNumbers.{DW_AT_byte_size, DW_AT_encoding, DW_AT_frame_base, DW_AT_high_pc, DW_AT_location, DW_AT_low_pc, DW_AT_name, DW_AT_ranges, DW_AT_type, DW_CHILDREN_no, DW_CHILDREN_yes, DW_FORM_addr, DW_FORM_data1, DW_FORM_data4, DW_FORM_exprloc, DW_FORM_ref4, DW_FORM_sec_offset, DW_FORM_string, DW_TAG_base_type, DW_TAG_compile_unit, DW_TAG_formal_parameter, DW_TAG_lexical_block, DW_TAG_subprogram, DW_TAG_variable}
+use Rattle.om_image.specs.DwarfNumbers.{DW_AT_byte_size, DW_AT_encoding, DW_AT_frame_base, DW_AT_high_pc, DW_AT_location, DW_AT_low_pc, DW_AT_name, DW_AT_ranges, DW_AT_stmt_list, DW_AT_type, DW_CHILDREN_no, DW_CHILDREN_yes, DW_FORM_addr, DW_FORM_data1, DW_FORM_data4, DW_FORM_exprloc, DW_FORM_ref4, DW_FORM_sec_offset, DW_FORM_string, DW_LNE_end_sequence, DW_LNE_set_address, DW_LNS_advance_pc, DW_LNS_copy, DW_TAG_base_type, DW_TAG_compile_unit, DW_TAG_formal_parameter, DW_TAG_lexical_block, DW_TAG_subprogram, DW_TAG_variable}
 use Rattle.om_image.specs.ElfFile.{half, word}
 
 -- ---- abbreviations: section 7.5.3
@@ -19,7 +19,7 @@ span = (DW_AT_name, DW_FORM_string) ∷ (DW_AT_low_pc, DW_FORM_addr) ∷ (DW_AT_
 abbrev pub typed : List (ℕ × ℕ)
 typed = (DW_AT_name, DW_FORM_string) ∷ (DW_AT_type, DW_FORM_ref4) ∷ (DW_AT_location, DW_FORM_exprloc) ∷ []
 
--- the table of all worked programs
+-- the table of the worked programs whose units have no lines
 unfoldable pub abbreviations : List ℕ
 abbreviations =
     declaration 1 DW_TAG_compile_unit DW_CHILDREN_yes []
@@ -33,7 +33,11 @@ abbreviations =
     ++ declaration 8 DW_TAG_subprogram DW_CHILDREN_yes span
     ++ 0 ∷ []
 
--- ---- entries of that table: section 7.5.2
+-- that table, with the declaration of a unit that has lines in front
+unfoldable pub lined_abbreviations : List ℕ
+lined_abbreviations = declaration 9 DW_TAG_compile_unit DW_CHILDREN_yes ((DW_AT_stmt_list, DW_FORM_sec_offset) ∷ []) ++ abbreviations
+
+-- ---- entries of these tables: section 7.5.2
 
 -- a text and the zero byte behind it (DW_FORM_string)
 abbrev pub text : List ℕ → List ℕ
@@ -46,6 +50,10 @@ expression operations = length operations ∷ operations
 -- the entry of a unit
 abbrev pub compile_unit : List ℕ
 compile_unit = 1 ∷ []
+
+-- the entry of a unit whose lines are those of the table at an offset of `.debug_line`
+abbrev pub lined_compile_unit : (lines_at : ℕ) → List ℕ
+lined_compile_unit lines_at = 9 ∷ word lines_at
 
 -- a function over so many bytes from an address on, which has no children
 abbrev pub subprogram : (name : List ℕ) → (low_pc size : ℕ) → List ℕ
@@ -96,3 +104,91 @@ unit entries =
 -- the list of one range, whose base address is 0
 abbrev pub range_list : (low high : ℕ) → List ℕ
 range_list low high = word low ++ word high ++ word 0 ++ word 0
+
+-- ---- heads of line tables: section 6.2.4
+
+-- how many operands each standard opcode has, from 1 on
+abbrev pub standard_opcode_lengths : List ℕ
+standard_opcode_lengths =
+    0  -- DW_LNS_copy
+    ∷ 1  -- DW_LNS_advance_pc
+    ∷ 1  -- DW_LNS_advance_line
+    ∷ 1  -- DW_LNS_set_file
+    ∷ 1  -- DW_LNS_set_column
+    ∷ 0  -- DW_LNS_negate_stmt
+    ∷ 0  -- DW_LNS_set_basic_block
+    ∷ 0  -- DW_LNS_const_add_pc
+    ∷ 1  -- DW_LNS_fixed_advance_pc
+    ∷ 0  -- DW_LNS_set_prologue_end
+    ∷ 0  -- DW_LNS_set_epilogue_begin
+    ∷ 1  -- DW_LNS_set_isa
+    ∷ []
+
+-- the first special opcode, behind the standard ones
+abbrev pub opcode_base : ℕ
+opcode_base = length standard_opcode_lengths + 1
+
+-- the least line increment of a special opcode
+abbrev pub line_base : ℕ
+line_base = 0
+
+-- how many line increments there are, from that one on
+abbrev pub line_range : ℕ
+line_range = 14
+
+-- what a table with one file says from `minimum_instruction_length` on, up to its program
+abbrev pub line_head : (file : List ℕ) → List ℕ
+line_head file =
+    4  -- minimum_instruction_length
+    ∷ 1  -- maximum_operations_per_instruction
+    ∷ 1  -- default_is_stmt
+    ∷ line_base
+    ∷ line_range
+    ∷ opcode_base
+    ∷ (standard_opcode_lengths
+    ++ 0  -- include_directories: their end
+    ∷ (text file  -- file_names
+    ++ 0  -- the directory of the file: that of the compilation
+    ∷ 0  -- its time, which isn't told
+    ∷ 0  -- its length, which isn't told
+    ∷ 0  -- the end of the files
+    ∷ []))
+
+-- ---- line programs: section 6.2.5
+
+pub data LineInstruction : Type 0 where
+  -- goes so many lines and instructions further, and makes a row
+  special : (line_increment operation_advance : ℕ) → LineInstruction
+  -- makes a row
+  copy : LineInstruction
+  -- goes so many instructions further
+  advance_pc : (operation_advance : ℕ) → LineInstruction
+  -- goes to an address
+  set_address : (address : ℕ) → LineInstruction
+  -- makes a row that ends the sequence
+  end_sequence : LineInstruction
+
+-- the opcode of a special instruction: section 6.2.5.1
+abbrev pub special_opcode : (line_increment operation_advance : ℕ) → ℕ
+special_opcode line_increment operation_advance = (line_increment - line_base) + line_range * operation_advance + opcode_base
+
+-- a zero, and an extended opcode with its operands behind their length: section 6.2.5.3
+abbrev pub extended : (opcode : ℕ) → (operands : List ℕ) → List ℕ
+extended opcode operands = 0 ∷ length (opcode ∷ operands) ∷ opcode ∷ operands
+
+-- how an instruction is spelled
+abbrev pub line_instruction : LineInstruction → List ℕ
+line_instruction (special line_increment operation_advance) = special_opcode line_increment operation_advance ∷ []
+line_instruction copy = DW_LNS_copy ∷ []
+line_instruction (advance_pc operation_advance) = DW_LNS_advance_pc ∷ operation_advance ∷ []
+line_instruction (set_address address) = extended DW_LNE_set_address (word address)
+line_instruction end_sequence = extended DW_LNE_end_sequence []
+
+-- ---- line tables: section 6.2.4
+
+-- a table of version 4 with one file, behind its length
+abbrev pub line_table : (file : List ℕ) → (program : List LineInstruction) → List ℕ
+line_table file program =
+    let head = line_head file in
+    let behind = half 4 ++ word (length head) ++ head ++ flat_map line_instruction program in
+    word (length behind) ++ behind

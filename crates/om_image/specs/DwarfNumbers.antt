@@ -1,4 +1,4 @@
--- The numbers of DWARF 4 that the worked programs use: sections 7.5.3, 7.5.4, 7.7.1 and 7.8.
+-- The numbers of DWARF 4 that the worked programs use: sections 7.5.3, 7.5.4, 7.7.1, 7.8 and 7.21.
 use Rattle.std.specs.Prelude.{ℕ}
 
 -- ---- tags: figure 18
@@ -39,6 +39,9 @@ DW_AT_name = 0x03
 
 abbrev pub DW_AT_byte_size : ℕ
 DW_AT_byte_size = 0x0B
+
+abbrev pub DW_AT_stmt_list : ℕ
+DW_AT_stmt_list = 0x10
 
 abbrev pub DW_AT_low_pc : ℕ
 DW_AT_low_pc = 0x11
@@ -102,3 +105,19 @@ DW_OP_call_frame_cfa = 0x9C
 
 abbrev pub DW_ATE_signed : ℕ
 DW_ATE_signed = 0x05
+
+-- ---- standard opcodes of line programs: figure 37
+
+abbrev pub DW_LNS_copy : ℕ
+DW_LNS_copy = 0x01
+
+abbrev pub DW_LNS_advance_pc : ℕ
+DW_LNS_advance_pc = 0x02
+
+-- ---- extended opcodes of line programs: figure 38
+
+abbrev pub DW_LNE_end_sequence : ℕ
+DW_LNE_end_sequence = 0x01
+
+abbrev pub DW_LNE_set_address : ℕ
+DW_LNE_set_address = 0x02

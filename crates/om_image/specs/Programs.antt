@@ -1,6 +1,7 @@
 -- The worked programs: their instructions, of the RISC-V unprivileged ISA, and their debugging information.
-use Rattle.std.specs.Prelude.{ℕ, List, [], ◌∷◌, ◌++◌, codes}
-use Rattle.om_image.specs.Dwarf.{abbreviations, base_type, compile_unit, end_of_children, formal_parameter, framed_subprogram, lexical_block, offset_behind, outer_subprogram, range_list, subprogram, unit, variable}
+use Rattle.std.specs.Prelude.{ℕ, List, [], ◌∷◌, ◌++◌, codes, replicate}
+use Rattle.om_image.specs.Dwarf.{abbreviations, base_type, compile_unit, end_of_children, formal_parameter, framed_subprogram, lexical_block, line_table, lined_abbreviations, lined_compile_unit, offset_behind, outer_subprogram, range_list, subprogram, unit, variable}
+use Rattle.om_image.specs.Dwarf.LineInstruction.{advance_pc, copy, end_sequence, set_address, special}
 use Rattle.om_image.specs.DwarfNumbers.{DW_ATE_signed, DW_OP_addr, DW_OP_call_frame_cfa, DW_OP_fbreg, DW_OP_reg10, DW_OP_reg17}
 use Rattle.om_image.specs.ElfFile.{SegmentView, SectionView, elf_file, program_bits, word}
 use Rattle.om_image.specs.declared.program.Program.{Program}
@@ -103,7 +104,7 @@ blocks_ranges = range_list 65_544 65_548
 -- what stands in front of the type, which is at an offset of the unit: the functions `main` and `down`, with the parameter `n` of the latter at -20 of its frame base, which is 0x6C in signed LEB128
 abbrev pub small_functions : (type_at : ℕ) → List ℕ
 small_functions type_at =
-    compile_unit
+    lined_compile_unit 0
     ++ subprogram (codes "main") 65_536 20
     ++ framed_subprogram (codes "down") 65_556 60 (DW_OP_call_frame_cfa ∷ [])
     ++ formal_parameter (codes "n") type_at (DW_OP_fbreg ∷ 0x6C ∷ [])
@@ -112,6 +113,16 @@ small_functions type_at =
 -- these, and behind them the type
 unfoldable pub small_info : List ℕ
 small_info = unit (small_functions (offset_behind (small_functions 0)) ++ int ++ end_of_children)
+
+-- the lines of the 20 words: line 1 for the first one, at 65536, and for each other one the next line; they end at 65616
+unfoldable pub small_lines : List ℕ
+small_lines = line_table (codes "specimen.c") (
+    set_address 65_536
+    ∷ copy
+    ∷ (replicate 19 (special 1 1)
+    ++ advance_pc 1
+    ∷ end_sequence
+    ∷ []))
 
 -- ---- programs
 
@@ -123,9 +134,9 @@ code_at address words = record { address = address; rights = ReadExecute; words 
 abbrev pub variables_at : ℕ → List ℕ → SegmentView
 variables_at address words = record { address = address; rights = ReadWrite; words = words }
 
--- the sections of a debugging information
-abbrev pub debug_sections : (info : List ℕ) → List SectionView
-debug_sections info = program_bits (codes ".debug_abbrev") abbreviations ∷ program_bits (codes ".debug_info") info ∷ []
+-- the sections of a debugging information, with the table of its abbreviations
+abbrev pub debug_sections : (table info : List ℕ) → List SectionView
+debug_sections table info = program_bits (codes ".debug_abbrev") table ∷ program_bits (codes ".debug_info") info ∷ []
 
 -- a program of these segments and sections, which begins at 65536
 abbrev pub program_of : List SegmentView → List SectionView → (input : List ℕ) → (truth : List (ℕ × ℕ)) → Program
@@ -134,15 +145,17 @@ program_of segments sections input truth = record { elf = elf_file 65_536 segmen
 abbrev pub worked_program : Which → Program
 worked_program P = program_of (code_at 65_536 countdown_code ∷ []) [] [] []
 worked_program G =
-    program_of (code_at 65_536 read_code ∷ variables_at 0x20000 (0 ∷ []) ∷ []) (debug_sections read_info) (7 ∷ 0 ∷ 0 ∷ 0 ∷ []) []
+    program_of (code_at 65_536 read_code ∷ variables_at 0x20000 (0 ∷ []) ∷ []) (debug_sections abbreviations read_info) (7 ∷ 0 ∷ 0 ∷ 0 ∷ []) []
 worked_program M = program_of (code_at 65_536 division_code ∷ []) [] [] []
 worked_program B =
     program_of (code_at 65_536 countdown_code ∷ [])
-    (debug_sections blocks_info ++ program_bits (codes ".debug_ranges") blocks_ranges ∷ []) [] []
+    (debug_sections abbreviations blocks_info ++ program_bits (codes ".debug_ranges") blocks_ranges ∷ []) [] []
 
 -- for each value of `n`, the number of states of the run that stand in `down` with it: `n` is kept at 20 below the stack pointer with which the call began, where 0 stands before
 abbrev pub small_truth : List (ℕ × ℕ)
 small_truth = (0, 26) ∷ (1, 10) ∷ (2, 10) ∷ (3, 10) ∷ []
 
 abbrev pub small_program : Program
-small_program = program_of (code_at 65_536 (small_main_code ++ down_code) ∷ []) (debug_sections small_info) [] small_truth
+small_program =
+    program_of (code_at 65_536 (small_main_code ++ down_code) ∷ [])
+    (debug_sections lined_abbreviations small_info ++ program_bits (codes ".debug_line") small_lines ∷ []) [] small_truth

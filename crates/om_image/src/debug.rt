@@ -1,4 +1,4 @@
-//! The debugging information of the worked programs, as bytes: DWARF 4, section 7.5.
+//! The debugging information of the worked programs, as bytes: DWARF 4, sections 7.5 and 6.2.
 
 ghost use Rattle.std.specs.Prelude.{◌≡◌, ◌+◌, ◌<◌, codes, length};
 ghost use Rattle.om_image.specs.Dwarf as dwarf;
@@ -7,8 +7,12 @@ ghost use Rattle.om_image.specs.Programs as spec;
 
 use crate::section::Section;
 
-/// `.debug_abbrev`, for all of them: section 7.5.3.
-const ABBREVIATIONS: [u8; 81] = [
+/// How long the declaration is of a unit that has lines.
+const LINED_UNIT: usize = 7;
+
+/// `.debug_abbrev`, for all of them: section 7.5.3. The unit with lines, in front, is that of S alone.
+const ABBREVIATIONS: [u8; 88] = [
+    9, 0x11, 1, 0x10, 0x17, 0, 0, // a unit, with children: stmt_list
     1, 0x11, 1, 0, 0, // a unit, with children
     2, 0x2e, 0, 0x03, 0x08, 0x11, 0x01, 0x12, 0x06, 0, 0, // a function: name, low_pc, high_pc
     3, 0x2e, 1, 0x03, 0x08, 0x11, 0x01, 0x12, 0x06, // a function with children: those
@@ -47,24 +51,51 @@ const BLOCKS_INFO: [u8; 56] = [
 const BLOCKS_RANGES: [u8; 16] = [8, 0, 1, 0, 12, 0, 1, 0, 0, 0, 0, 0, 0, 0, 0, 0];
 
 /// `.debug_info` of S.
-const SMALL_INFO: [u8; 61] = [
-    57, 0, 0, 0, 4, 0, 0, 0, 0, 0, 4, // 57 bytes follow the length, of version 4
-    1, // at 11: the unit
+const SMALL_INFO: [u8; 65] = [
+    61, 0, 0, 0, 4, 0, 0, 0, 0, 0, 4, // 61 bytes follow the length, of version 4
+    9, 0, 0, 0, 0, // at 11: the unit, with the lines at 0
     2, b'm', b'a', b'i', b'n', 0, 0, 0, 1, 0, 20, 0, 0, 0, // `main`, from 65536 on, 20 bytes long
     3, b'd', b'o', b'w', b'n', 0, 20, 0, 1, 0, 60, 0, 0, 0, // `down`, from 65556 on, 60 bytes long
     1, 0x9c, // its frame base: DW_OP_call_frame_cfa
-    4, b'n', 0, 53, 0, 0, 0, // `n`, of the type at 53
+    4, b'n', 0, 57, 0, 0, 0, // `n`, of the type at 57
     2, 0x91, 0x6c, // DW_OP_fbreg -20
     0, // the end of `down`
-    5, 4, 5, b'i', b'n', b't', 0, // at 53: the type
+    5, 4, 5, b'i', b'n', b't', 0, // at 57: the type
     0,
 ];
 
-/// The abbreviations of all programs.
+/// `.debug_line` of S: line 1 at 65536, and a line more at each word up to 65616.
+const SMALL_LINES: [u8; 76] = [
+    72, 0, 0, 0, 4, 0, // 72 bytes follow the length, of version 4
+    34, 0, 0, 0, // 34 bytes up to the program
+    4, 1, 1, // instructions of 4 bytes, of one operation each; default_is_stmt
+    0, 14, 13, // line_base, line_range, opcode_base
+    0, 1, 1, 1, 1, 0, 0, 0, 1, 0, 0, 1, // standard_opcode_lengths
+    0, // no directories
+    b's', b'p', b'e', b'c', b'i', b'm', b'e', b'n', b'.', b'c', 0, 0, 0, 0, // the file
+    0, // no more files
+    0, 5, 2, 0, 0, 1, 0, // DW_LNE_set_address 65536
+    1, // DW_LNS_copy: line 1
+    28, 28, 28, 28, 28, 28, 28, 28, 28, 28, // 10 special opcodes: a line and an instruction further
+    28, 28, 28, 28, 28, 28, 28, 28, 28, // and 9 more
+    2, 1, // DW_LNS_advance_pc 1
+    0, 1, 1, // DW_LNE_end_sequence
+];
+
+/// The abbreviations of the programs without lines.
 #[tactic(auto, unfolding(crate::specs::Dwarf::abbreviations))]
 pub(crate) fn abbreviations() -> Section<'static>
     ensures bytes { result ≡ program_bits (codes ".debug_abbrev") dwarf.abbreviations }
     ensures small { length result.name + length result.bytes < 100 }
+{
+    Section::program_bits(b".debug_abbrev", &ABBREVIATIONS[LINED_UNIT..])
+}
+
+/// The abbreviations of the program with lines.
+#[tactic(auto, unfolding(crate::specs::Dwarf::abbreviations, crate::specs::Dwarf::lined_abbreviations))]
+pub(crate) fn lined_abbreviations() -> Section<'static>
+    ensures bytes { result ≡ program_bits (codes ".debug_abbrev") dwarf.lined_abbreviations }
+    ensures small { length result.name + length result.bytes < 110 }
 {
     Section::program_bits(b".debug_abbrev", &ABBREVIATIONS)
 }
@@ -103,4 +134,13 @@ pub(crate) fn small_info() -> Section<'static>
     ensures small { length result.name + length result.bytes < 100 }
 {
     Section::program_bits(b".debug_info", &SMALL_INFO)
+}
+
+/// The lines of S.
+#[tactic(auto, unfolding(crate::specs::Programs::small_lines, crate::specs::ElfFile::half, crate::specs::ElfFile::word))]
+pub(crate) fn small_lines() -> Section<'static>
+    ensures bytes { result ≡ program_bits (codes ".debug_line") spec.small_lines }
+    ensures small { length result.name + length result.bytes < 100 }
+{
+    Section::program_bits(b".debug_line", &SMALL_LINES)
 }

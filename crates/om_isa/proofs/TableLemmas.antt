@@ -1,17 +1,16 @@
 -- That no word belongs to two rows of the table, and that each operation has one.
 use Rattle.std.proofs.Common.{◌≡◌, ◌≢◌, ℕ, ◌<◌, Bool, true, false, ◌&&◌, not, nat_eq, bit_and, List, [], ◌∷◌, length, get_or, map, Some, refl, sym, ap, ◌∙◌, arith}
 use Rattle.std.specs.Prelude.{All, AllPairs, Contains, find}
-use Rattle.std.specs.List.{list_all}
+use Rattle.std.specs.List.{list_all, range_with_len}
 use Rattle.std.specs.Int.Bits.{and_self}
 use Rattle.std.proofs.lemmas.Nat.{and_assoc, and_comm}
 use Rattle.std.proofs.lemmas.Bool.{and_parts, eqb-true, eqb-false}
 use Rattle.std.proofs.lemmas.List.Elements.{All-nil, All-cons, All-contains}
 use Rattle.std.proofs.lemmas.List.Kept.{AllPairs-cons}
+use Rattle.om_isa.specs.Order.{number_of}
 use Rattle.om_isa.specs.Table.{Row, table, fits, read_as, decoded}
 use Rattle.om_isa.specs.declared.op.Op.{Op}
 use Rattle.om_isa.specs.declared.op.Op.TheVariants.{Lui}
-use Rattle.om_isa.specs.contracts.op.Op.{the_type}
-use denote.Enum.Declared.{tag_of}
 
 -- ---- a test of each pair
 
@@ -89,24 +88,28 @@ reads word r among here =
 
 -- ---- operations
 
+pub in_order : map (λ (r : Row). number_of r.op) table ≡ range_with_len 0 (length table)
+unfolding table
+in_order = refl
+
 abbrev ops : List Op
 ops = map (λ (r : Row). r.op) table
 
-in_place : (op : Op) → get_or ops (tag_of the_type op) op ≡ op
+in_place : (op : Op) → get_or ops (number_of op) op ≡ op
 unfolding table
 in_place Lui = refl
 in_place _ = refl
 
-below_length : (op : Op) → tag_of the_type op < length ops
+below_length : (op : Op) → number_of op < length ops
 unfolding table
 below_length Lui = omega arith
 below_length _ = omega arith
 
 pub each_has_one : (op : Op) → Contains (map (λ (r : Row). r.op) table) op
-each_has_one op = (tag_of the_type op, below_length op, in_place op)
+each_has_one op = (number_of op, below_length op, in_place op)
 
 other : Row → Row → Bool
-other r s = not (nat_eq (tag_of the_type r.op) (tag_of the_type s.op))
+other r s = not (nat_eq (number_of r.op) (number_of s.op))
 
 other-table : pairs other table ≡ true
 unfolding pairs other table
@@ -115,4 +118,4 @@ other-table = refl
 pub once : AllPairs (λ r s. r.op ≢ s.op) table
 unfolding other
 once =
-    pairs_from other (λ r s. r.op ≢ s.op) (λ r s differ same. eqb-false (tag_of the_type r.op) (tag_of the_type s.op) (not-false _ differ) (ap (tag_of the_type) same)) table other-table
+    pairs_from other (λ r s. r.op ≢ s.op) (λ r s differ same. eqb-false (number_of r.op) (number_of s.op) (not-false _ differ) (ap (number_of) same)) table other-table

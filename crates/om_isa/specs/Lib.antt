@@ -1,2 +1,3 @@
-pub mod Table
+pub mod Order
 pub mod Parts
+pub mod Table

@@ -4,7 +4,7 @@
 use Rattle.std.specs.Prelude.{ℕ, ◌+◌, ◌-◌, ◌*◌, ◌/◌, ◌%◌, ◌^◌, Bool, nat_eq, nat_lt, bit_and, if◌then◌else◌, List, [], ◌∷◌, find, Option}
 use Rattle.std.specs.Option.{option_map}
 use Rattle.om_isa.specs.declared.op.Op.{Op}
-use Rattle.om_isa.specs.declared.op.Op.TheVariants.{Lui, Auipc, Jal, Jalr, Beq, Bne, Blt, Bge, Bltu, Bgeu, Lb, Lh, Lw, Lbu, Lhu, Sb, Sh, Sw, Addi, Slti, Sltiu, Xori, Ori, Andi, Slli, Srli, Srai, Add, Sub, Sll, Slt, Sltu, Xor, Srl, Sra, Or, And, Fence, FenceI, Ecall, Ebreak, Mul, Mulh, Mulhsu, Mulhu, Div, Divu, Rem, Remu}
+use Rattle.om_isa.specs.declared.op.Op.TheVariants as op
 use Rattle.om_isa.specs.declared.form.Form.{Form}
 use Rattle.om_isa.specs.declared.form.Form.TheVariants.{R, I, Shift, S, B, U, J, Bare}
 use Rattle.om_isa.specs.declared.instr.Instr.{Instr}
@@ -19,58 +19,58 @@ pub record Row : Type 0 where
 abbrev pub row : Op → Form → ℕ → ℕ → Row
 row op form mask bits = record { op = op; form = form; mask = mask; bits = bits }
 
--- operation, form, mask, match
+-- operation, form, mask, match: row k, from 0 on, is that of the k-th variant of `Op`, as the law `one_each` says
 unfoldable pub table : List Row
 table =
-    row Lui U 0x0000_007f 0x0000_0037
-    ∷ row Auipc U 0x0000_007f 0x0000_0017
-    ∷ row Jal J 0x0000_007f 0x0000_006f
-    ∷ row Jalr I 0x0000_707f 0x0000_0067
-    ∷ row Beq B 0x0000_707f 0x0000_0063
-    ∷ row Bne B 0x0000_707f 0x0000_1063
-    ∷ row Blt B 0x0000_707f 0x0000_4063
-    ∷ row Bge B 0x0000_707f 0x0000_5063
-    ∷ row Bltu B 0x0000_707f 0x0000_6063
-    ∷ row Bgeu B 0x0000_707f 0x0000_7063
-    ∷ row Lb I 0x0000_707f 0x0000_0003
-    ∷ row Lh I 0x0000_707f 0x0000_1003
-    ∷ row Lw I 0x0000_707f 0x0000_2003
-    ∷ row Lbu I 0x0000_707f 0x0000_4003
-    ∷ row Lhu I 0x0000_707f 0x0000_5003
-    ∷ row Sb S 0x0000_707f 0x0000_0023
-    ∷ row Sh S 0x0000_707f 0x0000_1023
-    ∷ row Sw S 0x0000_707f 0x0000_2023
-    ∷ row Addi I 0x0000_707f 0x0000_0013
-    ∷ row Slti I 0x0000_707f 0x0000_2013
-    ∷ row Sltiu I 0x0000_707f 0x0000_3013
-    ∷ row Xori I 0x0000_707f 0x0000_4013
-    ∷ row Ori I 0x0000_707f 0x0000_6013
-    ∷ row Andi I 0x0000_707f 0x0000_7013
-    ∷ row Slli Shift 0xfe00_707f 0x0000_1013
-    ∷ row Srli Shift 0xfe00_707f 0x0000_5013
-    ∷ row Srai Shift 0xfe00_707f 0x4000_5013
-    ∷ row Add R 0xfe00_707f 0x0000_0033
-    ∷ row Sub R 0xfe00_707f 0x4000_0033
-    ∷ row Sll R 0xfe00_707f 0x0000_1033
-    ∷ row Slt R 0xfe00_707f 0x0000_2033
-    ∷ row Sltu R 0xfe00_707f 0x0000_3033
-    ∷ row Xor R 0xfe00_707f 0x0000_4033
-    ∷ row Srl R 0xfe00_707f 0x0000_5033
-    ∷ row Sra R 0xfe00_707f 0x4000_5033
-    ∷ row Or R 0xfe00_707f 0x0000_6033
-    ∷ row And R 0xfe00_707f 0x0000_7033
-    ∷ row Fence Bare 0x0000_707f 0x0000_000f
-    ∷ row FenceI Bare 0x0000_707f 0x0000_100f
-    ∷ row Ecall Bare 0xffff_ffff 0x0000_0073
-    ∷ row Ebreak Bare 0xffff_ffff 0x0010_0073
-    ∷ row Mul R 0xfe00_707f 0x0200_0033
-    ∷ row Mulh R 0xfe00_707f 0x0200_1033
-    ∷ row Mulhsu R 0xfe00_707f 0x0200_2033
-    ∷ row Mulhu R 0xfe00_707f 0x0200_3033
-    ∷ row Div R 0xfe00_707f 0x0200_4033
-    ∷ row Divu R 0xfe00_707f 0x0200_5033
-    ∷ row Rem R 0xfe00_707f 0x0200_6033
-    ∷ row Remu R 0xfe00_707f 0x0200_7033
+    row op.Lui U 0x0000_007f 0x0000_0037
+    ∷ row op.Auipc U 0x0000_007f 0x0000_0017
+    ∷ row op.Jal J 0x0000_007f 0x0000_006f
+    ∷ row op.Jalr I 0x0000_707f 0x0000_0067
+    ∷ row op.Beq B 0x0000_707f 0x0000_0063
+    ∷ row op.Bne B 0x0000_707f 0x0000_1063
+    ∷ row op.Blt B 0x0000_707f 0x0000_4063
+    ∷ row op.Bge B 0x0000_707f 0x0000_5063
+    ∷ row op.Bltu B 0x0000_707f 0x0000_6063
+    ∷ row op.Bgeu B 0x0000_707f 0x0000_7063
+    ∷ row op.Lb I 0x0000_707f 0x0000_0003
+    ∷ row op.Lh I 0x0000_707f 0x0000_1003
+    ∷ row op.Lw I 0x0000_707f 0x0000_2003
+    ∷ row op.Lbu I 0x0000_707f 0x0000_4003
+    ∷ row op.Lhu I 0x0000_707f 0x0000_5003
+    ∷ row op.Sb S 0x0000_707f 0x0000_0023
+    ∷ row op.Sh S 0x0000_707f 0x0000_1023
+    ∷ row op.Sw S 0x0000_707f 0x0000_2023
+    ∷ row op.Addi I 0x0000_707f 0x0000_0013
+    ∷ row op.Slti I 0x0000_707f 0x0000_2013
+    ∷ row op.Sltiu I 0x0000_707f 0x0000_3013
+    ∷ row op.Xori I 0x0000_707f 0x0000_4013
+    ∷ row op.Ori I 0x0000_707f 0x0000_6013
+    ∷ row op.Andi I 0x0000_707f 0x0000_7013
+    ∷ row op.Slli Shift 0xfe00_707f 0x0000_1013
+    ∷ row op.Srli Shift 0xfe00_707f 0x0000_5013
+    ∷ row op.Srai Shift 0xfe00_707f 0x4000_5013
+    ∷ row op.Add R 0xfe00_707f 0x0000_0033
+    ∷ row op.Sub R 0xfe00_707f 0x4000_0033
+    ∷ row op.Sll R 0xfe00_707f 0x0000_1033
+    ∷ row op.Slt R 0xfe00_707f 0x0000_2033
+    ∷ row op.Sltu R 0xfe00_707f 0x0000_3033
+    ∷ row op.Xor R 0xfe00_707f 0x0000_4033
+    ∷ row op.Srl R 0xfe00_707f 0x0000_5033
+    ∷ row op.Sra R 0xfe00_707f 0x4000_5033
+    ∷ row op.Or R 0xfe00_707f 0x0000_6033
+    ∷ row op.And R 0xfe00_707f 0x0000_7033
+    ∷ row op.Fence Bare 0x0000_707f 0x0000_000f
+    ∷ row op.FenceI Bare 0x0000_707f 0x0000_100f
+    ∷ row op.Ecall Bare 0xffff_ffff 0x0000_0073
+    ∷ row op.Ebreak Bare 0xffff_ffff 0x0010_0073
+    ∷ row op.Mul R 0xfe00_707f 0x0200_0033
+    ∷ row op.Mulh R 0xfe00_707f 0x0200_1033
+    ∷ row op.Mulhsu R 0xfe00_707f 0x0200_2033
+    ∷ row op.Mulhu R 0xfe00_707f 0x0200_3033
+    ∷ row op.Div R 0xfe00_707f 0x0200_4033
+    ∷ row op.Divu R 0xfe00_707f 0x0200_5033
+    ∷ row op.Rem R 0xfe00_707f 0x0200_6033
+    ∷ row op.Remu R 0xfe00_707f 0x0200_7033
     ∷ []
 
 -- a word has a row's bits

@@ -1,7 +1,8 @@
 //! The instructions, by the manual's names: RISC-V unprivileged ISA, chapter "RV32/64G Instruction Set
 //! Listings", in its order.
 
-/// Which instruction a word is.
+/// Which instruction a word is: the k-th variant, from 0 on, has row k of the table in `specs/Table.antt`, as
+/// the law `one_each` says.
 #[derive(Clone, Copy, Debug, PartialEq, Eq)]
 pub enum Op {
     /// Load upper immediate.

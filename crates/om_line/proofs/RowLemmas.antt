@@ -1,11 +1,11 @@
 -- The first row that has an address, by what rows claim.
-use Rattle.std.proofs.Common.{◌≡◌, ℕ, zero, suc, ◌+◌, Bool, true, false, cond, leb, ltb, ◌&&◌, List, [], ◌∷◌, ◌++◌, length, append_assoc, map, filter, Option, Some, None, Bor, refl, sym, ap, ◌∙◌, arith}
+use Rattle.std.proofs.Common.{◌≡◌, ℕ, suc, ◌+◌, Bool, true, false, cond, leb, ltb, ◌&&◌, List, [], ◌∷◌, ◌++◌, length, append_assoc, map, filter, Option, Some, None, Bor, refl, sym, ap, ◌∙◌, arith}
 use Rattle.std.specs.Prelude.{find, position}
 use Rattle.std.specs.List.{list_all, slice_get}
 use Rattle.std.proofs.lemmas.List.{append-nil}
 use Rattle.std.specs.Option.{option_and_then, option_copied, option_map}
 use Rattle.std.specs.Slice.{IsItemAt}
-use Rattle.std.proofs.lemmas.Option.{slice_get-get_or, slice_get_past}
+use Rattle.std.proofs.lemmas.Option.{slice_get-get_or, slice_get-map, slice_get_past}
 use Rattle.om_base.specs.declared.span.Span.{Span}
 use Rattle.om_base.proofs.PlaceLemmas.{position_cons}
 use Rattle.om_claims.specs.Claims.{holds, is_meant, meant_at}
@@ -14,12 +14,16 @@ use Rattle.om_line.specs.Claims.{claims_of}
 use Rattle.om_line.specs.Lines.{ranged, row_at, span_of}
 use Rattle.om_line.specs.declared.row.LineRow.{LineRow}
 
--- rows with their addresses, as claims
-abbrev claims_in : List (LineRow × Span) → List Claim
+-- things with their addresses, as claims
+abbrev pub claims_in : {X : Type 0} → List (X × Span) → List Claim
 claims_in rows = map (λ r. record { span = r.1; depth = 0 }) rows
 
+-- an address is one of those of a thing
+abbrev pub has : {X : Type 0} → ℕ → X × Span → Bool
+has address r = leb r.1.lo address && ltb address r.1.hi
+
 -- of some claims none is deeper than 0
-none_deeper : (rows : List (LineRow × Span)) (address : ℕ) → list_all (λ other. leb other.depth 0) (filter (holds address) (claims_in rows)) ≡ true
+none_deeper : {X : Type 0} (rows : List (X × Span)) (address : ℕ) → list_all (λ other. leb other.depth 0) (filter (holds address) (claims_in rows)) ≡ true
 none_deeper [] address = refl
 none_deeper (r ∷ rows) address =
     elim (leb r.1.lo address && ltb address r.1.hi) as (λ b. list_all (λ other. leb other.depth 0) (cond b (record { span = r.1; depth = 0 } ∷ filter (holds address) (claims_in rows)) (filter (holds address) (claims_in rows))) ≡ true) [
@@ -32,7 +36,7 @@ and_true true c is = is
 and_true false c is = refl
 
 -- the first that passes one of two tests that agree on claims of depth 0
-same_place : (test : Claim → Bool) (address : ℕ) (rows : List (LineRow × Span)) → ((span : Span) → test (record { span = span; depth = 0 }) ≡ holds address (record { span = span; depth = 0 }))
+same_place : {X : Type 0} (test : Claim → Bool) (address : ℕ) (rows : List (X × Span)) → ((span : Span) → test (record { span = span; depth = 0 }) ≡ holds address (record { span = span; depth = 0 }))
     → position test (claims_in rows) ≡ position (holds address) (claims_in rows)
 same_place test address [] same = refl
 same_place test address (r ∷ rows) same =
@@ -41,49 +45,56 @@ same_place test address (r ∷ rows) same =
     ∙ ap (λ o. cond (holds address (record { span = r.1; depth = 0 })) (Some 0) (option_map (λ k. k + 1) o)) (same_place test address rows same)
     ∙ sym (position_cons (holds address) (record { span = r.1; depth = 0 }) (claims_in rows))
 
-first_meant : (rows : List (LineRow × Span)) (address : ℕ) → meant_at (claims_in rows) address ≡ position (holds address) (claims_in rows)
+first_meant : {X : Type 0} (rows : List (X × Span)) (address : ℕ) → meant_at (claims_in rows) address ≡ position (holds address) (claims_in rows)
 unfolding meant_at
 first_meant rows address =
     same_place (is_meant (claims_in rows) address) address rows (λ span. and_true (holds address (record { span = span; depth = 0 })) _ (none_deeper rows address))
 
--- the row at the first place of rows
-pub row_in : List (LineRow × Span) → ℕ → Option LineRow
+-- the thing at a place
+row_in : {X : Type 0} → List (X × Span) → ℕ → Option X
 row_in rows place = option_map (λ r. r.0) (slice_get rows place)
 
-next_by : (passes : Bool) (r : LineRow × Span) (rows : List (LineRow × Span)) (place : Option ℕ) (found : Option LineRow) → option_and_then (row_in rows) place ≡ found
+next_by : {X : Type 0} (passes : Bool) (r : X × Span) (rows : List (X × Span)) (place : Option ℕ) (found : Option X) → option_and_then (row_in rows) place ≡ found
     → option_and_then (row_in (r ∷ rows)) (cond passes (Some 0) (option_map (λ k. k + 1) place)) ≡ cond passes (Some r.0) found
 unfolding row_in
 next_by true r rows place found is = refl
 next_by false r rows None found is = is
 next_by false r rows (Some k) found is = let next : k + 1 ≡ suc k = omega arith in rw next is
 
-find_map : (b : Bool) (r : LineRow × Span) (o : Option (LineRow × Span)) → cond b (Some r.0) (option_map (λ x. x.0) o) ≡ option_map (λ x. x.0) (cond b (Some r) o)
+find_map : {X : Type 0} (b : Bool) (r : X × Span) (o : Option (X × Span)) → cond b (Some r.0) (option_map (λ x. x.0) o) ≡ option_map (λ x. x.0) (cond b (Some r) o)
 find_map true r o = refl
 find_map false r o = refl
 
-found : (rows : List (LineRow × Span)) (address : ℕ) → option_and_then (row_in rows) (position (holds address) (claims_in rows)) ≡ option_map (λ r. r.0) (find (λ r. leb r.1.lo address && ltb address r.1.hi) rows)
+found : {X : Type 0} (rows : List (X × Span)) (address : ℕ) → option_and_then (row_in rows) (position (holds address) (claims_in rows)) ≡ option_map (λ r. r.0) (find (has address) rows)
 found [] address = refl
 found (r ∷ rows) address =
     ap (option_and_then (row_in (r ∷ rows))) (position_cons (holds address) (record { span = r.1; depth = 0 }) (claims_in rows))
     ∙ next_by (leb r.1.lo address && ltb address r.1.hi) r rows (position (holds address) (claims_in rows)) _ (found rows address)
-    ∙ find_map (leb r.1.lo address && ltb address r.1.hi) r (find (λ r. leb r.1.lo address && ltb address r.1.hi) rows)
+    ∙ find_map (leb r.1.lo address && ltb address r.1.hi) r (find (has address) rows)
 
--- a row of rows with their addresses
-row_is : (rows : List LineRow) (place : ℕ) → row_in (ranged rows) place ≡ slice_get rows place
-unfolding ranged row_in
-row_is [] place = refl
-row_is (row ∷ rows) zero = refl
-row_is (row ∷ rows) (suc place) = row_is rows place
+-- the things alone
+place_alone : {X : Type 0} (rows : List (X × Span)) (place : Option ℕ) → option_and_then (slice_get (map (λ r. r.0) rows)) place ≡ option_and_then (row_in rows) place
+unfolding row_in
+place_alone rows None = refl
+place_alone rows (Some place) = slice_get-map (λ r. r.0) rows place
 
-row_of_place : (rows : List LineRow) (place : Option ℕ) → option_and_then (row_in (ranged rows)) place ≡ option_and_then (slice_get rows) place
-row_of_place rows None = refl
-row_of_place rows (Some place) = row_is rows place
+-- the thing whose claim is meant is the first that has the address
+pub thing_meant : {X : Type 0} (rows : List (X × Span)) (address : ℕ) → option_and_then (slice_get (map (λ r. r.0) rows)) (meant_at (claims_in rows) address) ≡ option_map (λ r. r.0) (find (has address) rows)
+thing_meant rows address =
+    place_alone rows (meant_at (claims_in rows) address)
+    ∙ ap (option_and_then (row_in rows)) (first_meant rows address)
+    ∙ found rows address
+
+-- rows with their addresses are these rows
+pub rows_alone : (rows : List LineRow) → map (λ r. r.0) (ranged rows) ≡ rows
+unfolding ranged
+rows_alone [] = refl
+rows_alone (row ∷ rows) = ap (λ rs. row ∷ rs) (rows_alone rows)
 
 pub row_meant : (rows : List LineRow) (address : ℕ) → option_and_then (slice_get rows) (meant_at (claims_of rows) address) ≡ row_at rows address
 row_meant rows address =
-    sym (row_of_place rows (meant_at (claims_of rows) address))
-    ∙ ap (option_and_then (row_in (ranged rows))) (first_meant (ranged rows) address)
-    ∙ found (ranged rows) address
+    ap (λ rs. option_and_then (slice_get rs) (meant_at (claims_of rows) address)) (sym (rows_alone rows))
+    ∙ thing_meant (ranged rows) address
 
 -- ---- claims so far
 
@@ -107,7 +118,7 @@ no_more all claims (row ∷ rest) so_far none = absurd (omega (arith, none))
 -- ---- rows by their places
 
 -- an element that is lent
-pub lent : (rows : List LineRow) (place : ℕ) (r : Option (Bor LineRow)) → IsItemAt rows place r → option_copied r ≡ slice_get rows place
+pub lent : {X : Type 0} (rows : List X) (place : ℕ) (r : Option (Bor X)) → IsItemAt rows place r → option_copied r ≡ slice_get rows place
 lent rows place None is = sym (slice_get_past rows place is.3)
 lent rows place (Some row) is = ap Some is.1 ∙ sym (slice_get-get_or rows place row.now is.3.0)
 

@@ -6,4 +6,7 @@ pub mod Files
 pub mod Running
 pub mod Lines
 pub mod Claims
+pub mod Tables
+pub mod Gathering
+pub mod Kept
 pub mod Laws

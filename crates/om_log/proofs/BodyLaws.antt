@@ -1,21 +1,18 @@
 -- What the parts of the reader find, step by step.
-use Rattle.std.proofs.Common.{◌≡◌, ◌↔◌, ℕ, suc, ◌-◌, ◌<◌, ◌≤◌, Bool, true, false, eqb, List, [], ◌∷◌, ◌++◌, length, take, drop, slice_index, Some, None, refl, sym, ap, subst, ◌∙◌, arith, inl, inr}
+use Rattle.std.proofs.Common.{◌≡◌, ◌↔◌, ℕ, suc, ◌-◌, ◌<◌, ◌≤◌, Bool, true, false, eqb, List, [], ◌∷◌, ◌++◌, length, Some, None, refl, sym, ap, subst, ◌∙◌, arith, inl, inr}
 use Rattle.std.specs.Prelude.{IsTrue}
 use Rattle.std.specs.List.{slice_get}
 use Rattle.std.proofs.lemmas.List.{append-nil, length-append}
-use Rattle.om_log.specs.Faults.{IsHeaderFault, IsKind, IsRefused, IsFaultBehind, IsBodyFault}
-use Rattle.om_log.specs.Fields.{number}
-use Rattle.om_log.specs.Grammar.{spelling, spellings, header, HasCause, step_of, next_of, IsEnd, MayStand, AreLawful, HasEnd, next_after}
-use Rattle.om_log.specs.Reading.{entry_field, start_field}
-use Rattle.om_log.specs.Regions.{FitsStart, IsLawfulStart}
-use Rattle.om_log.specs.Steps.{IsHeader, IsFirst, IsBody}
+use Rattle.om_log.specs.Faults.{IsKind, IsRefused, IsFaultBehind, IsBodyFault}
+use Rattle.om_log.specs.Grammar.{spelling, spellings, HasCause, step_of, next_of, IsEnd, MayStand, AreLawful, HasEnd, next_after}
+use Rattle.om_log.specs.EntryFields.{entry_field}
+use Rattle.om_log.specs.Steps.{IsFirst, IsBody}
 use Rattle.om_log.specs.declared.entry.Entry.{Entry}
 use Rattle.om_log.specs.declared.entry.Entry.TheVariants.{Call, Mark, End}
 use Rattle.om_log.specs.declared.fault.LogFault.{LogFault}
-use Rattle.om_log.specs.declared.fault.LogFault.TheVariants.{Short, Kind, Order, NoEnd, Trailing, Region}
-use Rattle.om_log.specs.declared.start.Start.{Start}
-use Rattle.om_log.proofs.FieldLaws.{IsBytes, IsBytes-drop, IsSized, number_sized, both_sized, mapped_sized, none_in_front}
-use Rattle.om_log.proofs.EntryLaws.{entry_law, start_law, start_spelling}
+use Rattle.om_log.specs.declared.fault.LogFault.TheVariants.{Short, Kind, Order, NoEnd, Trailing}
+use Rattle.om_log.proofs.FieldLaws.{IsBytes, none_in_front}
+use Rattle.om_log.proofs.EntryLaws.{entry_law}
 use Rattle.om_log.proofs.LogLaws.{lawful_more, runs_more, ends_more, next_more, spellings_more}
 
 -- ---- one entry
@@ -130,41 +127,3 @@ is_body body entries rest least ended here over none =
 pub none_left : (rest : List ℕ) (b : Bool) → b ≡ eqb (length rest) 0 → b ≡ false → rest ≡ [] → ⊥
 none_left [] b is more none = cc
 none_left (x ∷ rest) b is more none = cc
-
--- ---- the header
-
-pub start_sized : IsSized start_field 16
-unfolding start_field
-start_sized =
-    let four = number_sized 4 in
-    mapped_sized (λ (x : ((ℕ × ℕ) × ℕ) × ℕ). (let s : Start = record { stack_low = x.0.0.0; stack_size = x.0.0.1; heap_low = x.0.1; heap_size = x.1 } in s))
-    (both_sized (both_sized (both_sized four four) four) four)
-
-pub start_whole : (bytes : List ℕ) → 16 ≤ length bytes → start_field bytes ≡ None → ⊥
-start_whole bytes long e = let there = start_sized.whole bytes long in let some = there.1 in cc
-
-letters_front : (file : List ℕ) (rest : List ℕ) → 20 ≤ length file → take 3 file ≡ 79 ∷ 84 ∷ 76 ∷ [] → slice_index file 3 ≡ 49 → drop 4 file ≡ rest → file ≡ 79 ∷ 84 ∷ 76 ∷ 49 ∷ rest
-letters_front [] rest long letters digit behind = absurd cc
-letters_front (a ∷ []) rest long letters digit behind = absurd cc
-letters_front (a ∷ b ∷ []) rest long letters digit behind = absurd cc
-letters_front (a ∷ b ∷ c ∷ []) rest long letters digit behind = absurd (let few : 20 ≤ 3 = long in omega arith)
-letters_front (a ∷ b ∷ c ∷ d ∷ file) rest long letters digit behind =
-    let first : a ≡ 79 = cc in
-    let second : b ≡ 84 = cc in
-    let third : c ≡ 76 = cc in
-    let fourth : d ≡ 49 = digit in
-    let others : file ≡ rest = behind in
-    cc
-
-pub header_is : (file : List ℕ) (start : Start) (body : List ℕ) → IsBytes file → 20 ≤ length file → take 3 file ≡ 79 ∷ 84 ∷ 76 ∷ [] → slice_index file 3 ≡ 49 → start_field (drop 4 file) ≡ Some (start, body) → FitsStart start × (file ≡ header start ++ body)
-unfolding header
-header_is file start body bytes long letters digit taken =
-    let p = start_law.takes (drop 4 file) (start, body) (IsBytes-drop 4 file bytes) taken in
-    (p.1, letters_front file (start_spelling start ++ body) long letters digit p.0)
-
-pub header_lawful : (file : List ℕ) (start : Start) (body : List ℕ) → FitsStart start × (file ≡ header start ++ body) → IsLawfulStart start → IsHeader file start body
-header_lawful file start body h lawful = record { fits = h.0; lawful = lawful; spelled = h.1 }
-
-pub header_unlawful : (file : List ℕ) (start : Start) (body : List ℕ) → FitsStart start × (file ≡ header start ++ body) → (IsLawfulStart start → ⊥) → IsHeaderFault file Region
-unfolding IsHeaderFault
-header_unlawful file start body h unlawful = inr (inr (inr (record { start = start; body = body; fits = h.0; spelled = h.1; unlawful = unlawful }, refl)))

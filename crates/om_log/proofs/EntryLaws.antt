@@ -1,4 +1,4 @@
--- An entry that is read is the entry that was spelled, and what was spelled is read again; so for the header.
+-- An entry that is read is the entry that was spelled, and what was spelled is read again.
 use Rattle.std.proofs.Common.{◌≡◌, ℕ, zero, suc, ◌+◌, ◌-◌, ◌^◌, ◌<◌, ◌≤◌, List, [], ◌∷◌, ◌++◌, length, take, drop, Option, Some, None, refl, sym, ap, subst, ◌∙◌, arith, inl, inr}
 use Rattle.std.specs.Option.{option_map}
 use Rattle.std.specs.List.{flat_map, AllByRecursion}
@@ -6,14 +6,12 @@ use Rattle.std.proofs.lemmas.Bool.{cases_eq, eq-eqb, ne_eqb}
 use Rattle.std.proofs.lemmas.List.{take_at, drop_at, length-append}
 use Rattle.om_log.specs.Chunk.{Chunk, first_and_others}
 use Rattle.om_log.specs.Fields.{Field, some_bytes, number, both, times, behind}
-use Rattle.om_log.specs.Grammar.{chunk_spelling, chunks_spelling, spelling, header, FitsChunk, Fits}
+use Rattle.om_log.specs.Grammar.{chunk_spelling, chunks_spelling, spelling, FitsChunk, Fits}
 use Rattle.om_log.specs.LittleEndian.{le_bytes}
-use Rattle.om_log.specs.Reading.{chunk_field, chunks_field, chunks_in, args_field, call_field, mark_field, end_field, entry_field, start_field}
-use Rattle.om_log.specs.Regions.{FitsStart}
+use Rattle.om_log.specs.EntryFields.{chunk_field, chunks_field, chunks_in, args_field, call_field, mark_field, end_field, entry_field}
 use Rattle.om_log.specs.declared.entry.Entry.{Entry}
 use Rattle.om_log.specs.declared.entry.Entry.TheVariants.{Call, Mark, End}
-use Rattle.om_log.specs.declared.start.Start.{Start}
-use Rattle.om_log.proofs.FieldLaws.{IsBytes, IsBytes-rest, IsField, bytes_law, number_law, both_law, mapped_law, times_law, led_law, fits_law, bind_some, some_is, one_front}
+use Rattle.om_log.proofs.FieldLaws.{IsBytes, IsBytes-rest, IsField, bytes_law, number_law, both_law, mapped_law, times_law, led_law, fits_law, bind_some, some_is}
 
 -- ---- writes
 
@@ -191,34 +189,3 @@ entry_again (End step cause value) rest f = rw (end_law.again ((step, cause), va
 -- an entry is read as it was spelled
 pub entry_law : IsField entry_field spelling Fits
 entry_law = record { takes = entry_takes; again = entry_again }
-
--- ---- the header
-
-abbrev StartParts : Type 0
-StartParts = ((ℕ × ℕ) × ℕ) × ℕ
-
-abbrev start_of : StartParts → Start
-start_of x = record { stack_low = x.0.0.0; stack_size = x.0.0.1; heap_low = x.0.1; heap_size = x.1 }
-
-abbrev parts_of : Start → StartParts
-parts_of s = (((s.stack_low, s.stack_size), s.heap_low), s.heap_size)
-
--- the bytes of the four numbers
-abbrev pub start_spelling : Start → List ℕ
-start_spelling start = le_bytes 4 start.stack_low ++ le_bytes 4 start.stack_size ++ le_bytes 4 start.heap_low ++ le_bytes 4 start.heap_size
-
-pub start_law : IsField start_field start_spelling FitsStart
-unfolding start_field
-start_law =
-    let four = both_law (both_law (both_law (number_law 4) (number_law 4)) (number_law 4)) (number_law 4) in
-    fits_law FitsStart
-    (λ s f. record { stack_low = f.0.0.0; stack_size = f.0.0.1; heap_low = f.0.1; heap_size = f.1 })
-    (λ s f. (((f.stack_low, f.stack_size), f.heap_low), f.heap_size))
-    (mapped_law start_of parts_of (λ a. refl) (λ b. refl) four)
-
--- two headers in front of the same bytes are one
-pub one_header : (a b : Start) (r t : List ℕ) → FitsStart a → FitsStart b → header a ++ r ≡ header b ++ t → (a ≡ b) × (r ≡ t)
-unfolding header
-one_header a b r t fa fb same =
-    let behind : start_spelling a ++ r ≡ start_spelling b ++ t = ap (drop 4) same in
-    one_front start_law a b r t fa fb behind

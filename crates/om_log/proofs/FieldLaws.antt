@@ -3,7 +3,7 @@ use Rattle.std.proofs.Common.{◌≡◌, ℕ, zero, suc, ◌+◌, ◌-◌, ◌*�
 use Rattle.std.specs.Option.{option_map}
 use Rattle.std.specs.List.{flat_map, AllByRecursion}
 use Rattle.std.proofs.lemmas.Bool.{cases_lt, lt-ltb, le-ltb}
-use Rattle.std.proofs.lemmas.List.{take_at, drop_at, take-append-drop, length-append, length-take, length-drop, drop-drop, get_or-drop, get_or-take, get_or_past}
+use Rattle.std.proofs.lemmas.List.{take_at, drop_at, take-append-drop, length-append, length-take, get_or-drop, get_or-take, get_or_past}
 use Rattle.om_base.specs.Numbers.{le}
 use Rattle.om_log.specs.Fields.{Field, ◌>>=◌, some_bytes, number, mapped, both, times, behind, led}
 use Rattle.om_log.specs.LittleEndian.{le_bytes}
@@ -243,24 +243,3 @@ fits_law Q weaker stronger law = record {
   takes = λ bytes x h e. let p = law.takes bytes x h e in (p.0, weaker x.0 p.1);
   again = λ x rest fits. law.again x rest (stronger x fits);
 }
-
--- ---- fields of fixed size
-
--- a field of fixed size is whole where there are so many bytes
-pub record IsSized {A : Type 0} (field : Field A) (size : ℕ) : Type 0 where
-  pub whole : (bytes : List ℕ) → size ≤ length bytes → (x : A) × (field bytes ≡ Some (x, drop size bytes))
-
-pub number_sized : (width : ℕ) → IsSized (number width) width
-unfolding number
-number_sized width = record { whole = λ bytes long. (le (take width bytes), let test = le-ltb (length bytes) width long in rw test refl) }
-
-pub both_sized : {A B : Type 0} {first : Field A} {second : Field B} {m n : ℕ} → IsSized first m → IsSized second n → IsSized (both first second) (m + n)
-both_sized {A} {B} {first} {second} {m} {n} one other = record {
-  whole = λ bytes long.
-      let a = one.whole bytes (omega arith) in
-      let b = other.whole (drop m bytes) (omega (arith, length-drop m bytes)) in
-      ((a.0, b.0), rw (a.1, b.1) (ap (λ (rest : List ℕ). Some ((a.0, b.0), rest)) (drop-drop n m bytes)));
-}
-
-pub mapped_sized : {A B : Type 0} {field : Field A} {size : ℕ} (f : A → B) → IsSized field size → IsSized (mapped f field) size
-mapped_sized f law = record { whole = λ bytes long. let a = law.whole bytes long in (f a.0, rw a.1 refl) }

@@ -1,7 +1,9 @@
 pub mod BodyLaws
 pub mod EntryLaws
 pub mod FieldLaws
+pub mod HeaderLaws
 pub mod LogLaws
 pub mod ReadLaws
+pub mod RegionLemmas
 pub mod TotalLaws
 pub mod WriteLaws

@@ -1,17 +1,16 @@
 -- Lists of entries, and that a file is spelled in one way: one log or one fault, and never both.
-use Rattle.std.proofs.Common.{◌≡◌, ℕ, suc, ◌-◌, ◌≤◌, List, [], ◌∷◌, ◌++◌, length, take, slice_index, refl, sym, ap, subst, ◌∙◌, append_assoc, arith, inl, inr, ◌⊎◌}
-use Rattle.std.proofs.lemmas.List.{append-nil, length-append}
-use Rattle.om_log.specs.Faults.{IsHeaderFault, IsKind, IsNoEntry, IsRefused, IsFaultBehind, IsBodyFault, IsFault}
-use Rattle.om_log.specs.Grammar.{spelling, spellings, header, Fits, HasCause, step_of, next_of, IsEnd, MayStand, AreLawful, HasEnd, next_after, IsLog}
-use Rattle.om_log.specs.LittleEndian.{le_bytes}
-use Rattle.om_log.specs.Regions.{FitsStart, IsLawfulStart}
+use Rattle.std.proofs.Common.{◌≡◌, ℕ, ◌-◌, List, [], ◌∷◌, ◌++◌, length, refl, sym, ap, subst, ◌∙◌, append_assoc, arith, inl, inr, ◌⊎◌}
+use Rattle.std.proofs.lemmas.List.{append-nil}
+use Rattle.om_log.specs.Faults.{IsKind, IsNoEntry, IsRefused, IsFaultBehind, IsBodyFault, IsFault}
+use Rattle.om_log.specs.Grammar.{spelling, spellings, Fits, HasCause, step_of, next_of, IsEnd, MayStand, AreLawful, HasEnd, next_after, IsLog}
 use Rattle.om_log.specs.declared.entry.Entry.{Entry}
 use Rattle.om_log.specs.declared.entry.Entry.TheVariants.{Call, Mark, End}
 use Rattle.om_log.specs.declared.fault.LogFault.{LogFault}
 use Rattle.om_log.specs.declared.log.Log.{Log}
 use Rattle.om_log.specs.declared.start.Start.{Start}
-use Rattle.om_log.proofs.FieldLaws.{one_front, length-le_bytes}
-use Rattle.om_log.proofs.EntryLaws.{entry_law, one_header}
+use Rattle.om_log.proofs.FieldLaws.{one_front}
+use Rattle.om_log.proofs.EntryLaws.{entry_law}
+use Rattle.om_log.proofs.HeaderLaws.{no_header_fault, one_header, one_header_fault}
 
 -- ---- one more entry
 
@@ -221,67 +220,6 @@ longest_list len body f p es rest lawful same =
       | inl front ↦ longer_by len body f p es rest lawful front.more front.longer front.behind
       | inr front ↦ (front.more, front.longer)
     ]
-
--- ---- headers
-
--- what stands at the front of a file with a header
-pub record HasHeader (file : List ℕ) : Type 0 where
-  pub whole : 20 ≤ length file
-  pub letters : take 3 file ≡ 79 ∷ 84 ∷ 76 ∷ []
-  pub digit : slice_index file 3 ≡ 49
-
-header_front : (start : Start) (body : List ℕ) → HasHeader (header start ++ body)
-unfolding header
-header_front start body =
-    let a = le_bytes 4 start.stack_low in
-    let b = le_bytes 4 start.stack_size in
-    let c = le_bytes 4 start.heap_low in
-    let d = le_bytes 4 start.heap_size in
-    let behind : 16 ≤ length ((((a ++ b) ++ c) ++ d) ++ body) =
-    omega (
-      arith,
-      length-append (((a ++ b) ++ c) ++ d) body,
-      length-append ((a ++ b) ++ c) d,
-      length-append (a ++ b) c,
-      length-append a b,
-      length-le_bytes 4 start.stack_low,
-      length-le_bytes 4 start.stack_size,
-      length-le_bytes 4 start.heap_low,
-      length-le_bytes 4 start.heap_size,
-    ) in
-    record { whole = (let h : 20 ≤ suc (suc (suc (suc (length ((((a ++ b) ++ c) ++ d) ++ body))))) = omega arith in h); letters = refl; digit = refl }
-
-pub header_there : (file : List ℕ) (start : Start) (body : List ℕ) → file ≡ header start ++ body → HasHeader file
-header_there file start body same = subst HasHeader (sym same) (header_front start body)
-
--- a lawful header has no fault
-pub no_header_fault : (file : List ℕ) (f : LogFault) (start : Start) (body : List ℕ) → FitsStart start → IsLawfulStart start → file ≡ header start ++ body → IsHeaderFault file f → ⊥
-unfolding IsHeaderFault
-no_header_fault file f start body fits lawful same (inl h) = omega (arith, h.0, (header_there file start body same).whole)
-no_header_fault file f start body fits lawful same (inr (inl h)) = h.1 (header_there file start body same).letters
-no_header_fault file f start body fits lawful same (inr (inr (inl h))) = h.2 (header_there file start body same).digit
-no_header_fault file f start body fits lawful same (inr (inr (inr h))) =
-    let one = one_header start h.0.start body h.0.body fits h.0.fits (sym same ∙ h.0.spelled) in
-    h.0.unlawful (subst IsLawfulStart one.0 lawful)
-
-one_header_fault : (file : List ℕ) (f g : LogFault) → IsHeaderFault file f → IsHeaderFault file g → f ≡ g
-unfolding IsHeaderFault
-one_header_fault file f g (inl a) (inl b) = a.1 ∙ sym b.1
-one_header_fault file f g (inl a) (inr (inl b)) = absurd (omega (arith, a.0, b.0))
-one_header_fault file f g (inl a) (inr (inr (inl b))) = absurd (omega (arith, a.0, b.0))
-one_header_fault file f g (inl a) (inr (inr (inr b))) = absurd (omega (arith, a.0, (header_there file b.0.start b.0.body b.0.spelled).whole))
-one_header_fault file f g (inr (inl a)) (inl b) = absurd (omega (arith, a.0, b.0))
-one_header_fault file f g (inr (inl a)) (inr (inl b)) = a.2 ∙ sym b.2
-one_header_fault file f g (inr (inl a)) (inr (inr (inl b))) = absurd (a.1 b.1)
-one_header_fault file f g (inr (inl a)) (inr (inr (inr b))) = absurd (a.1 (header_there file b.0.start b.0.body b.0.spelled).letters)
-one_header_fault file f g (inr (inr (inl a))) (inl b) = absurd (omega (arith, a.0, b.0))
-one_header_fault file f g (inr (inr (inl a))) (inr (inl b)) = absurd (b.1 a.1)
-one_header_fault file f g (inr (inr (inl a))) (inr (inr (inl b))) = a.3 ∙ sym b.3
-one_header_fault file f g (inr (inr (inl a))) (inr (inr (inr b))) = absurd (a.2 (header_there file b.0.start b.0.body b.0.spelled).digit)
-one_header_fault file f g (inr (inr (inr a))) (inl b) = absurd (omega (arith, b.0, (header_there file a.0.start a.0.body a.0.spelled).whole))
-one_header_fault file f g (inr (inr (inr a))) (inr (inl b)) = absurd (b.1 (header_there file a.0.start a.0.body a.0.spelled).letters)
-one_header_fault file f g (inr (inr (inr a))) (inr (inr (inl b))) = absurd (b.2 (header_there file a.0.start a.0.body a.0.spelled).digit)
-one_header_fault file f g (inr (inr (inr a))) (inr (inr (inr b))) = a.1 ∙ sym b.1
 
 -- ---- files
 

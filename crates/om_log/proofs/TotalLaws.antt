@@ -1,20 +1,20 @@
 -- Each file is a log or has a fault.
-use Rattle.std.proofs.Common.{◌≡◌, ℕ, zero, suc, ◌+◌, ◌-◌, ◌%◌, ◌^◌, ◌<◌, ◌≤◌, true, false, List, [], ◌∷◌, ◌++◌, length, take, drop, slice_index, Option, Some, None, refl, ap, ◌∙◌, arith, inl, inr, ◌⊎◌}
+use Rattle.std.proofs.Common.{◌≡◌, ℕ, zero, suc, ◌-◌, ◌≤◌, true, false, List, [], ◌∷◌, ◌++◌, length, drop, Option, Some, None, refl, ap, ◌∙◌, arith, inl, inr, ◌⊎◌}
 use Rattle.std.proofs.lemmas.Bool.{cases_eq, cases_lt}
-use Rattle.std.proofs.lemmas.List.{length-drop}
-use Rattle.om_log.specs.Faults.{IsHeaderFault, IsKind, IsRefused, IsBodyFault, IsFault}
+use Rattle.om_log.specs.Faults.{IsKind, IsRefused, IsBodyFault, IsFault, header_fault, start_in}
 use Rattle.om_log.specs.Grammar.{header, HasCause, step_of, next_of, IsEnd, IsLog}
-use Rattle.om_log.specs.Reading.{entry_field}
-use Rattle.om_log.specs.Regions.{HasRoom, AreApart, FitsStart, IsLawfulStart}
+use Rattle.om_log.specs.EntryFields.{entry_field}
+use Rattle.om_log.specs.Regions.{FitsStart, IsLawfulStart}
 use Rattle.om_log.specs.Steps.{IsFirst, IsBody}
 use Rattle.om_log.specs.declared.entry.Entry.{Entry}
 use Rattle.om_log.specs.declared.entry.Entry.TheVariants.{Call, Mark, End}
 use Rattle.om_log.specs.declared.fault.LogFault.{LogFault}
-use Rattle.om_log.specs.declared.fault.LogFault.TheVariants.{Short, Magic, Version, Kind, Order, NoEnd, Trailing, Region}
+use Rattle.om_log.specs.declared.fault.LogFault.TheVariants.{Short, Kind, Order, NoEnd, Trailing}
 use Rattle.om_log.specs.declared.log.Log.{Log}
 use Rattle.om_log.specs.declared.start.Start.{Start}
 use Rattle.om_log.proofs.FieldLaws.{IsBytes, IsBytes-rest}
-use Rattle.om_log.proofs.BodyLaws.{refused_end, refused_kind, refused_short, refused_cause, refused_order, first_is, IsAt, starts, goes_on, shorter, refused_behind, trailing_behind, is_body, start_sized, header_is, header_unlawful}
+use Rattle.om_log.proofs.BodyLaws.{refused_end, refused_kind, refused_short, refused_cause, refused_order, first_is, IsAt, starts, goes_on, shorter, refused_behind, trailing_behind, is_body}
+use Rattle.om_log.proofs.HeaderLaws.{header_there}
 
 -- ---- one entry
 
@@ -99,76 +99,6 @@ body_or_fault len body bytes = from_here (length body) len body [] body 0 (omega
 
 -- ---- files
 
-letters_cases : (file : List ℕ) → 20 ≤ length file → (take 3 file ≡ 79 ∷ 84 ∷ 76 ∷ []) ⊎ (take 3 file ≡ 79 ∷ 84 ∷ 76 ∷ [] → ⊥)
-letters_cases [] long = inr (λ h. cc)
-letters_cases (a ∷ []) long = inr (λ h. cc)
-letters_cases (a ∷ b ∷ []) long = inr (λ h. cc)
-letters_cases (a ∷ b ∷ c ∷ file) long =
-    elim (cases_eq a 79) [
-      | inr other ↦ inr (λ h. other (cc))
-      | inl first ↦ elim (cases_eq b 84) [
-        | inr other ↦ inr (λ h. other (cc))
-        | inl second ↦ elim (cases_eq c 76) [
-          | inr other ↦ inr (λ h. other (cc))
-          | inl third ↦ inl (cc)
-        ]
-      ]
-    ]
-
-apart_cases : (s : Start) → 0 < s.stack_size → AreApart s ⊎ (AreApart s → ⊥)
-apart_cases s some =
-    elim (cases_lt 0 s.heap_size) [
-      | inr none ↦ inl (λ addr a b. omega (arith, a.0, a.1, b.0, b.1))
-      | inl heap ↦ elim (cases_lt s.heap_low (s.stack_low + s.stack_size)) [
-        | inr behind ↦ inl (λ addr a b. omega (arith, a.0, a.1, b.0, b.1))
-        | inl below ↦ elim (cases_lt s.stack_low (s.heap_low + s.heap_size)) [
-          | inr before ↦ inl (λ addr a b. omega (arith, a.0, a.1, b.0, b.1))
-          | inl over ↦ inr (λ apart. elim (cases_lt s.stack_low s.heap_low) [
-            | inl lower ↦ apart s.heap_low (omega arith, omega arith) (omega arith, omega arith)
-            | inr higher ↦ apart s.stack_low (omega arith, omega arith) (omega arith, omega arith)
-          ])
-        ]
-      ]
-    ]
-
-room_cases : (s : Start) → HasRoom s ⊎ (HasRoom s → ⊥)
-room_cases s =
-    elim (cases_eq (s.stack_low % 4096) 0) [
-      | inr other ↦ inr (λ h. other h.stack_low)
-      | inl stack_low ↦ elim (cases_eq (s.stack_size % 4096) 0) [
-        | inr other ↦ inr (λ h. other h.stack_size)
-        | inl stack_size ↦ elim (cases_eq (s.heap_low % 4096) 0) [
-          | inr other ↦ inr (λ h. other h.heap_low)
-          | inl heap_low ↦ elim (cases_eq (s.heap_size % 4096) 0) [
-            | inr other ↦ inr (λ h. other h.heap_size)
-            | inl heap_size ↦ elim (cases_lt 0 s.stack_size) [
-              | inr none ↦ inr (λ h. omega (arith, h.stack))
-              | inl some ↦ elim (cases_lt (2 ^ 32) (s.stack_low + s.stack_size)) [
-                | inl over ↦ inr (λ h. omega (arith, h.stack_end))
-                | inr stack_end ↦ elim (cases_lt (2 ^ 32) (s.heap_low + s.heap_size)) [
-                  | inl over ↦ inr (λ h. omega (arith, h.heap_end))
-                  | inr heap_end ↦ elim (cases_lt 33_554_432 (s.stack_size + s.heap_size)) [
-                    | inl over ↦ inr (λ h. omega (arith, h.most))
-                    | inr most ↦ inl (record { stack_low = stack_low; stack_size = stack_size; heap_low = heap_low; heap_size = heap_size; stack = some; stack_end = stack_end; heap_end = heap_end; most = most })
-                  ]
-                ]
-              ]
-            ]
-          ]
-        ]
-      ]
-    ]
-
-pub lawful_cases : (s : Start) → IsLawfulStart s ⊎ (IsLawfulStart s → ⊥)
-lawful_cases s =
-    elim (room_cases s) [
-      | inr none ↦ inr (λ h. none h.room)
-      | inl room ↦ elim (apart_cases s room.stack) [
-        | inr overlap ↦ inr (λ h. overlap h.apart)
-        | inl apart ↦ inl (record { room = room; apart = apart })
-      ]
-    ]
-
 -- a file is the spelling of a log, or has a fault
 abbrev pub IsLogOrFault : List ℕ → Type 0
 IsLogOrFault file = ((log : Log) × IsLog file log) ⊎ ((f : LogFault) × IsFault file f)
@@ -185,27 +115,12 @@ with_body file start body h lawful (inl list) =
 with_body file start body h lawful (inr fault) =
     inr (fault.0, inr (record { start = start; body = body; fits = h.0; lawful = lawful; spelled = h.1; in_body = fault.1 }))
 
-with_letters : (file : List ℕ) → IsBytes file → 20 ≤ length file → take 3 file ≡ 79 ∷ 84 ∷ 76 ∷ [] → slice_index file 3 ≡ 49 → IsLogOrFault file
-with_letters file bytes long letters digit =
-    let few : 16 ≤ length (drop 4 file) = omega (arith, length-drop 4 file) in
-    let taken = start_sized.whole (drop 4 file) few in
-    let body = drop 16 (drop 4 file) in
-    let h = header_is file taken.0 body bytes long letters digit taken.1 in
-    elim (lawful_cases taken.0) [
-      | inr unlawful ↦ inr (Region, inl (header_unlawful file taken.0 body h unlawful))
-      | inl lawful ↦ with_body file taken.0 body h lawful (body_or_fault (length file) body (IsBytes-rest file (header taken.0) body bytes h.1))
-    ]
+by_header : (file : List ℕ) (o : Option LogFault) → IsBytes file → header_fault file ≡ o → IsLogOrFault file
+by_header file (Some fault) bytes e = inr (fault, inl e)
+by_header file None bytes e =
+    let h = header_there file bytes e in
+    with_body file (start_in file) (drop 20 file) (h.fits, h.spelled) h.lawful
+    (body_or_fault (length file) (drop 20 file) (IsBytes-rest file (header (start_in file)) (drop 20 file) bytes h.spelled))
 
 pub log_or_fault : (file : List ℕ) → IsBytes file → IsLogOrFault file
-unfolding IsHeaderFault
-log_or_fault file bytes =
-    elim (cases_lt (length file) 20) [
-      | inl short ↦ inr (Short 0, inl (inl (short, refl)))
-      | inr long ↦ elim (letters_cases file long) [
-        | inr other ↦ inr (Magic, inl (inr (inl (long, other, refl))))
-        | inl letters ↦ elim (cases_eq (slice_index file 3) 49) [
-          | inr other ↦ inr (Version, inl (inr (inr (inl (long, letters, other, refl)))))
-          | inl digit ↦ with_letters file bytes long letters digit
-        ]
-      ]
-    ]
+log_or_fault file bytes = by_header file (header_fault file) bytes refl

@@ -7,7 +7,7 @@ use Rattle.std.specs.List.{AllByRecursion}
 use Rattle.om_log.specs.Chunk.{Chunk}
 use Rattle.om_log.specs.Grammar.{spelling, spellings, header, FitsChunk, Fits, next_of, AreLawful, HasEnd}
 use Rattle.om_log.specs.LittleEndian.{le_bytes}
-use Rattle.om_log.specs.Appending.{IsFront, headed, IsHeaded}
+use Rattle.om_log.specs.Fronts.{IsFront, headed, IsHeaded}
 use Rattle.om_log.specs.Writing.{IsShort, HasShortWrites}
 use Rattle.om_log.specs.declared.entry.Entry.{Entry}
 use Rattle.om_log.specs.declared.entry.Entry.TheVariants.{Call, Mark, End}

@@ -1,29 +1,45 @@
 -- What is wrong with a file that isn't a log: the first fault, from its first byte on.
-use Rattle.std.specs.Prelude.{◌≡◌, ◌≢◌, ℕ, ◌-◌, ◌<◌, ◌≤◌, List, [], ◌∷◌, ◌++◌, length, take, slice_index, ◌⊎◌}
+use Rattle.std.specs.Prelude.{◌≡◌, ◌≢◌, ℕ, ◌-◌, ◌<◌, ◌≤◌, Bool, ◌&&◌, nat_eq, nat_le, List, [], ◌∷◌, ◌++◌, length, slice_index, Option, Some, ◌⊎◌}
+use Rattle.om_base.specs.Firsts.{first_of, unless}
+use Rattle.om_base.specs.Numbers.{word}
 use Rattle.om_log.specs.Grammar.{spelling, spellings, header, Fits, HasCause, step_of, AreLawful, HasEnd, next_after}
-use Rattle.om_log.specs.Regions.{FitsStart, IsLawfulStart}
+use Rattle.om_log.specs.Regions.{FitsStart, IsLawfulStart, start_faults}
 use Rattle.om_log.specs.declared.entry.Entry.{Entry}
 use Rattle.om_log.specs.declared.fault.LogFault.{LogFault}
-use Rattle.om_log.specs.declared.fault.LogFault.TheVariants.{Short, Magic, Version, Kind, Order, NoEnd, Trailing, Region}
+use Rattle.om_log.specs.declared.fault.LogFault.TheVariants.{Short, Magic, Version, Kind, Order, NoEnd, Trailing}
 use Rattle.om_log.specs.declared.start.Start.{Start}
 
 -- ---- the header
 
--- a file begins with a header that breaks the rules of the regions
-pub record HasUnlawfulHeader (file : List ℕ) : Type 0 where
-  pub start : Start
-  pub body : List ℕ
-  pub fits : FitsStart start
-  pub spelled : file ≡ header start ++ body
-  pub unlawful : IsLawfulStart start → ⊥
+-- the file begins with the letters OTL
+abbrev pub has_letters : List ℕ → Bool
+has_letters file =
+    nat_eq (slice_index file 0) 79 && nat_eq (slice_index file 1) 84 && nat_eq (slice_index file 2) 76
 
--- the first rule of the header that a file breaks: its length, the letters OTL, the digit 1, the regions
-unfoldable pub IsHeaderFault : List ℕ → LogFault → Type 0
-IsHeaderFault file fault =
-    ((length file < 20) × (fault ≡ Short 0))
-    ⊎ (((20 ≤ length file) × (take 3 file ≢ 79 ∷ 84 ∷ 76 ∷ []) × (fault ≡ Magic))
-    ⊎ (((20 ≤ length file) × (take 3 file ≡ 79 ∷ 84 ∷ 76 ∷ []) × (slice_index file 3 ≢ 49) × (fault ≡ Version))
-    ⊎ (HasUnlawfulHeader file × (fault ≡ Region))))
+-- behind them it has the digit 1
+abbrev pub has_version : List ℕ → Bool
+has_version file = nat_eq (slice_index file 3) 49
+
+-- the regions, by the numbers at their offsets
+abbrev pub start_in : List ℕ → Start
+start_in file = record {
+  stack_low = word file 4;
+  stack_size = word file 8;
+  heap_low = word file 12;
+  heap_size = word file 16;
+}
+
+-- what each rule of the header says, in their order: behind these, what each rule of the regions says
+abbrev pub header_faults : List ℕ → List (Option LogFault)
+header_faults file =
+    unless (nat_le 20 (length file)) (Short 0)
+    ∷ unless (has_letters file) Magic
+    ∷ unless (has_version file) Version
+    ∷ start_faults (start_in file)
+
+-- the fault of a header: that of the first rule that it breaks
+unfoldable pub header_fault : List ℕ → Option LogFault
+header_fault file = first_of (header_faults file)
 
 -- ---- the entries
 
@@ -89,4 +105,4 @@ pub record IsEntryFault (file : List ℕ) (fault : LogFault) : Type 0 where
 
 -- the fault of a file
 abbrev pub IsFault : List ℕ → LogFault → Type 0
-IsFault file fault = IsHeaderFault file fault ⊎ IsEntryFault file fault
+IsFault file fault = (header_fault file ≡ Some fault) ⊎ IsEntryFault file fault

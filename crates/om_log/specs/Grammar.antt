@@ -2,6 +2,7 @@
 use Rattle.std.specs.Prelude.{◌≡◌, ℕ, ◌+◌, ◌<◌, ◌≤◌, ◌^◌, List, [], ◌∷◌, ◌++◌, length, ◌⊎◌}
 use Rattle.std.specs.List.{flat_map, AllByRecursion}
 use Rattle.om_log.specs.Chunk.{Chunk}
+use Rattle.om_log.specs.EndCauses.{by_cut, by_stop}
 use Rattle.om_log.specs.LittleEndian.{le_bytes}
 use Rattle.om_log.specs.Regions.{FitsStart, IsLawfulStart}
 use Rattle.om_log.specs.declared.entry.Entry.{Entry}
@@ -58,7 +59,7 @@ Fits (End step cause value) = (step < 2 ^ 64) × (cause < 256) × (value < 2 ^ 3
 unfoldable pub HasCause : Entry → Type 0
 HasCause (Call step number args result writes) = Unit {0}
 HasCause (Mark step pc sum) = Unit {0}
-HasCause (End step cause value) = (cause ≤ 2) × (cause ≡ 1 → value ≡ 0)
+HasCause (End step cause value) = (cause ≤ by_stop) × (cause ≡ by_cut → value ≡ 0)
 
 -- the step of an entry
 unfoldable pub step_of : Entry → ℕ

@@ -1,7 +1,7 @@
 -- The list that held writes stand for.
 use Rattle.std.specs.Prelude.{List, [], ◌∷◌}
 use Rattle.om_log.specs.Chunk.{Chunk}
-use Rattle.om_log.specs.Reading.{chunks_in}
+use Rattle.om_log.specs.EntryFields.{chunks_in}
 use Rattle.om_log.specs.declared.writes.Held.{Held}
 use Rattle.om_log.specs.declared.writes.Held.TheVariants.{Empty, One, Spelled}
 

@@ -1,11 +1,12 @@
-pub mod Appending
 pub mod Chunk
+pub mod EndCauses
+pub mod EntryFields
 pub mod Faults
 pub mod Fields
+pub mod Fronts
 pub mod Grammar
 pub mod Held
 pub mod LittleEndian
-pub mod Reading
 pub mod Regions
 pub mod Steps
 pub mod Writing

@@ -2,6 +2,7 @@
 
 ghost use Rattle.std.specs.Prelude.{◌≡◌, ◌↔◌, IsTrue};
 
+use crate::end_cause::{BY_CUT, BY_STOP};
 use crate::writes::Writes;
 
 /// What a log tells of a step of the run: the call that it makes, what its state looks like, or that the run
@@ -30,7 +31,7 @@ pub enum Entry<'a> {
     /// The end of the run: the step is its last state.
     End {
         step: u64,
-        /// 0 for an exit, 1 for a cut, 2 for a stop.
+        /// `BY_EXIT`, `BY_CUT` or `BY_STOP`.
         cause: u8,
         /// The exit's first argument, 0, or the stop's code.
         value: u32,
@@ -72,7 +73,9 @@ impl<'a> Entry<'a> {
         match self {
             Entry::Call { .. } => true,
             Entry::Mark { .. } => true,
-            Entry::End { cause, value, .. } => *cause <= 2 && (*cause != 1 || *value == 0),
+            Entry::End { cause, value, .. } => {
+                *cause <= BY_STOP && (*cause != BY_CUT || *value == 0)
+            },
         }
     }
 

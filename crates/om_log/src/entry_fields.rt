@@ -1,14 +1,14 @@
 //! An entry as the file spells it, field by field.
 
 ghost use Rattle.om_log.specs.Fields.{Reads, behind};
-ghost use Rattle.om_log.specs.Reading.{chunk_field, chunks_field, args_field, call_field, mark_field, end_field, entry_field};
+ghost use Rattle.om_log.specs.EntryFields.{chunk_field, chunks_field, args_field, call_field, mark_field, end_field, entry_field};
 
 use crate::entry::Entry;
 use crate::fields::{chunk_of, u8_of, u32_of, u64_of};
 use crate::writes::Writes;
 
 /// The entry in front, of any kind.
-#[tactic(auto, unfolding(crate::specs::Reading::entry_field))]
+#[tactic(auto, unfolding(crate::specs::EntryFields::entry_field))]
 pub(crate) fn entry_of(bytes: &[u8]) -> Option<(Entry<'_>, &[u8])>
     ensures { Reads (λ x. (x.0, x.1.now)) result (entry_field bytes.now) }
 {
@@ -28,7 +28,7 @@ pub(crate) fn entry_of(bytes: &[u8]) -> Option<(Entry<'_>, &[u8])>
 }
 
 /// A CALL behind its kind.
-#[tactic(auto, unfolding(crate::specs::Reading::call_field))]
+#[tactic(auto, unfolding(crate::specs::EntryFields::call_field))]
 fn call_of(bytes: &[u8]) -> Option<(Entry<'_>, &[u8])>
     ensures { Reads (λ x. (x.0, x.1.now)) result (call_field bytes.now) }
 {
@@ -48,7 +48,7 @@ fn call_of(bytes: &[u8]) -> Option<(Entry<'_>, &[u8])>
 }
 
 /// The six arguments of a CALL.
-#[tactic(auto, unfolding(crate::specs::Reading::args_field, crate::specs::Fields::times))]
+#[tactic(auto, unfolding(crate::specs::EntryFields::args_field, crate::specs::Fields::times))]
 fn args_of(bytes: &[u8]) -> Option<([u32; 6], &[u8])>
     ensures { Reads (λ x. (x.0, x.1.now)) result (args_field bytes.now) }
 {
@@ -62,7 +62,7 @@ fn args_of(bytes: &[u8]) -> Option<([u32; 6], &[u8])>
 }
 
 /// The writes of a CALL, which stay where they are.
-#[tactic(auto, unfolding(crate::specs::Reading::chunks_field))]
+#[tactic(auto, unfolding(crate::specs::EntryFields::chunks_field))]
 fn chunks_of(bytes: &[u8]) -> Option<(Writes<'_>, &[u8])>
     ensures { Reads (λ x. (x.0, x.1.now)) result (chunks_field bytes.now) }
 {
@@ -87,7 +87,7 @@ fn behind_chunks(count: u32, bytes: &[u8]) -> Option<&[u8]>
 }
 
 /// A MARK behind its kind.
-#[tactic(auto, unfolding(crate::specs::Reading::mark_field))]
+#[tactic(auto, unfolding(crate::specs::EntryFields::mark_field))]
 fn mark_of(bytes: &[u8]) -> Option<(Entry<'_>, &[u8])>
     ensures { Reads (λ x. (x.0, x.1.now)) result (mark_field bytes.now) }
 {
@@ -98,7 +98,7 @@ fn mark_of(bytes: &[u8]) -> Option<(Entry<'_>, &[u8])>
 }
 
 /// An END behind its kind.
-#[tactic(auto, unfolding(crate::specs::Reading::end_field))]
+#[tactic(auto, unfolding(crate::specs::EntryFields::end_field))]
 fn end_of(bytes: &[u8]) -> Option<(Entry<'_>, &[u8])>
     ensures { Reads (λ x. (x.0, x.1.now)) result (end_field bytes.now) }
 {

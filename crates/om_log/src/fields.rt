@@ -1,7 +1,7 @@
 //! Fields that are read from the front of some bytes, each with the bytes after it.
 
 ghost use Rattle.om_log.specs.Fields.{Reads, number, some_bytes};
-ghost use Rattle.om_log.specs.Reading.{chunk_field};
+ghost use Rattle.om_log.specs.EntryFields.{chunk_field};
 
 use crate::write::Write;
 use byteorder::{ByteOrder, LittleEndian};
@@ -54,7 +54,7 @@ pub fn u64_of(bytes: &[u8]) -> Option<(u64, &[u8])>
 }
 
 /// An address, a length and so many bytes.
-#[tactic(auto, unfolding(crate::specs::Reading::chunk_field))]
+#[tactic(auto, unfolding(crate::specs::EntryFields::chunk_field))]
 pub fn chunk_of(bytes: &[u8]) -> Option<(Write<'_>, &[u8])>
     ensures { Reads (λ x. (x.0, x.1.now)) result (chunk_field bytes.now) }
 {

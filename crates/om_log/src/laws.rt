@@ -1,12 +1,22 @@
 //! The laws of the format: a file is one log or has one fault, and never both. They have no code.
 
 ghost use Rattle.std.specs.Prelude.{◌≡◌, ◌<◌, ◌⊎◌, ◌++◌, ℕ, List, slice_index};
+ghost use Rattle.om_log.specs.EndCauses.{by_cut, by_exit, by_stop};
 ghost use Rattle.om_log.specs.Faults.{IsFault, IsBodyFault};
 ghost use Rattle.om_log.specs.Grammar.{AreLawful, spellings, IsLog};
 ghost use Rattle.om_log.specs.Steps.{IsBody};
 ghost use Rattle.om_log.specs.declared.entry.Entry.{Entry};
 ghost use Rattle.om_log.specs.declared.fault.LogFault.{LogFault};
 ghost use Rattle.om_log.specs.declared.log.Log.{Log};
+
+use crate::end_cause::{BY_CUT, BY_EXIT, BY_STOP};
+
+/// The code and the definitions have the same causes of an END.
+pub fn one_cause()
+    ensures exit { BY_EXIT ≡ by_exit }
+    ensures cut { BY_CUT ≡ by_cut }
+    ensures stop { BY_STOP ≡ by_stop }
+{}
 
 /// Bytes are read in one way.
 pub fn one_reading()

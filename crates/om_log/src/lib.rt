@@ -5,6 +5,7 @@
 #![tactic(auto)]
 
 mod body;
+mod end_cause;
 mod entry;
 mod entry_fields;
 mod fault;
@@ -12,7 +13,7 @@ mod fields;
 mod header;
 mod laws;
 mod log;
-mod pieces;
+mod putting;
 mod reader;
 mod spelling;
 mod start;
@@ -20,9 +21,10 @@ mod write;
 mod writer;
 mod writes;
 
+pub use end_cause::{BY_CUT, BY_EXIT, BY_STOP};
 pub use entry::Entry;
 pub use fault::LogFault;
-pub use laws::{body_or_fault, log_or_fault, longest, one_reading};
+pub use laws::{body_or_fault, log_or_fault, longest, one_cause, one_reading};
 pub use log::Log;
 pub use reader::read_log;
 pub use start::Start;

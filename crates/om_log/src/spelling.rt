@@ -2,16 +2,17 @@
 //!
 //! The bytes of a write go straight from where they lie to behind the others, and are copied once.
 
-ghost use Rattle.std.specs.Prelude.{◌≡◌, ◌<◌, ◌^◌, ◌++◌, length, OnOk};
+ghost use Rattle.std.specs.Prelude.{◌<◌, ◌^◌, length};
 ghost use Rattle.std.specs.List.{AllByRecursion, flat_map};
+ghost use Rattle.om_base.specs.Appending.{PutsBehind};
 ghost use Rattle.om_log.specs.Grammar.{chunk_spelling, spelling, header};
 ghost use Rattle.om_log.specs.LittleEndian.{le_bytes};
-ghost use Rattle.om_log.specs.Appending.{IsFront};
+ghost use Rattle.om_log.specs.Fronts.{IsFront};
 ghost use Rattle.om_log.specs.Writing.{IsShort, HasShortWrites};
 ghost use Rattle.om_log.specs.declared.entry.Entry.TheVariants.{Call, Mark, End};
 
 use crate::entry::Entry;
-use crate::pieces::{put_bytes, put_sized, put_u8, put_u32, put_u64};
+use crate::putting::{put_bytes, put_sized, put_u8, put_u32, put_u64};
 use crate::start::Start;
 use crate::write::Write;
 use crate::writes::Writes;
@@ -20,7 +21,7 @@ use om_base::NoMemory;
 /// Appends the letters OTL, the digit 1 and the four numbers of the header.
 #[tactic(auto, using(crate::proofs::WriteLaws::front_trans), unfolding(crate::specs::Grammar::header))]
 pub(crate) fn put_header(bytes: &mut Vec<u8>, start: &Start) -> Result<(), NoMemory>
-    ensures ok { OnOk result (bytes.new.items ≡ bytes.old.items ++ header start.now) }
+    ensures ok { PutsBehind result bytes.old.items (header start.now) bytes.new.items }
     ensures front { IsFront bytes.old.items bytes.new.items }
 {
     put_bytes(bytes, b"OTL1")?;
@@ -33,7 +34,7 @@ pub(crate) fn put_header(bytes: &mut Vec<u8>, start: &Start) -> Result<(), NoMem
 /// Appends an entry of any kind.
 pub(crate) fn put_entry(bytes: &mut Vec<u8>, entry: &Entry<'_>) -> Result<(), NoMemory>
     requires { HasShortWrites entry.now }
-    ensures ok { OnOk result (bytes.new.items ≡ bytes.old.items ++ spelling entry.now) }
+    ensures ok { PutsBehind result bytes.old.items (spelling entry.now) bytes.new.items }
     ensures front { IsFront bytes.old.items bytes.new.items }
 {
     match entry {
@@ -61,8 +62,7 @@ fn put_call(
 ) -> Result<(), NoMemory>
     requires count { length writes.now < 2 ^ 32 }
     requires each { AllByRecursion IsShort writes.now }
-    ensures ok { OnOk result (bytes.new.items
-        ≡ bytes.old.items ++ spelling (Call step number args.now answer writes.now)) }
+    ensures ok { PutsBehind result bytes.old.items (spelling (Call step number args.now answer writes.now)) bytes.new.items }
     ensures front { IsFront bytes.old.items bytes.new.items }
 {
     put_bytes(bytes, &[1])?;
@@ -76,7 +76,7 @@ fn put_call(
 
 /// Appends the arguments of a CALL.
 fn put_args(bytes: &mut Vec<u8>, args: &[u32; 6]) -> Result<(), NoMemory>
-    ensures ok { OnOk result (bytes.new.items ≡ bytes.old.items ++ flat_map (le_bytes 4) args.now) }
+    ensures ok { PutsBehind result bytes.old.items (flat_map (le_bytes 4) args.now) bytes.new.items }
     ensures front { IsFront bytes.old.items bytes.new.items }
 {
     for arg in args {
@@ -88,8 +88,7 @@ fn put_args(bytes: &mut Vec<u8>, args: &[u32; 6]) -> Result<(), NoMemory>
 /// Appends each of the writes.
 fn put_each(bytes: &mut Vec<u8>, writes: &Writes<'_>) -> Result<(), NoMemory>
     requires { AllByRecursion IsShort writes.now }
-    ensures ok { OnOk result (bytes.new.items
-        ≡ bytes.old.items ++ flat_map chunk_spelling writes.now) }
+    ensures ok { PutsBehind result bytes.old.items (flat_map chunk_spelling writes.now) bytes.new.items }
     ensures front { IsFront bytes.old.items bytes.new.items }
 {
     let mut rest = writes.again();
@@ -104,7 +103,7 @@ fn put_each(bytes: &mut Vec<u8>, writes: &Writes<'_>) -> Result<(), NoMemory>
 #[tactic(auto, using(crate::proofs::WriteLaws::front_trans))]
 fn put_write(bytes: &mut Vec<u8>, write: &Write<'_>) -> Result<(), NoMemory>
     requires { length write.now.bytes < 2 ^ 32 }
-    ensures ok { OnOk result (bytes.new.items ≡ bytes.old.items ++ chunk_spelling write.now) }
+    ensures ok { PutsBehind result bytes.old.items (chunk_spelling write.now) bytes.new.items }
     ensures front { IsFront bytes.old.items bytes.new.items }
 {
     put_u32(bytes, write.addr)?;
@@ -114,7 +113,7 @@ fn put_write(bytes: &mut Vec<u8>, write: &Write<'_>) -> Result<(), NoMemory>
 /// Appends a MARK.
 #[tactic(auto, using(crate::proofs::WriteLaws::front_trans), unfolding(crate::specs::Grammar::spelling))]
 fn put_mark(bytes: &mut Vec<u8>, step: u64, pc: u32, sum: u32) -> Result<(), NoMemory>
-    ensures ok { OnOk result (bytes.new.items ≡ bytes.old.items ++ spelling (Mark step pc sum)) }
+    ensures ok { PutsBehind result bytes.old.items (spelling (Mark step pc sum)) bytes.new.items }
     ensures front { IsFront bytes.old.items bytes.new.items }
 {
     put_bytes(bytes, &[2])?;
@@ -126,8 +125,7 @@ fn put_mark(bytes: &mut Vec<u8>, step: u64, pc: u32, sum: u32) -> Result<(), NoM
 /// Appends an END.
 #[tactic(auto, using(crate::proofs::WriteLaws::front_trans), unfolding(crate::specs::Grammar::spelling))]
 fn put_end(bytes: &mut Vec<u8>, step: u64, cause: u8, value: u32) -> Result<(), NoMemory>
-    ensures ok { OnOk result (bytes.new.items
-        ≡ bytes.old.items ++ spelling (End step cause value)) }
+    ensures ok { PutsBehind result bytes.old.items (spelling (End step cause value)) bytes.new.items }
     ensures front { IsFront bytes.old.items bytes.new.items }
 {
     put_bytes(bytes, &[3])?;

@@ -1,9 +1,9 @@
 //! The regions that a run begins with, beside those of the executable.
 
-ghost use Rattle.std.specs.Prelude.{◌≡◌, ◌<◌, ◌+◌, ◌%◌, ◌↔◌, IsTrue};
+ghost use Rattle.std.specs.Prelude.{◌≡◌, ◌+◌, ◌↔◌, IsTrue};
 
-/// The size of a page, in bytes.
-const PAGE: u32 = 4096;
+use crate::fault::LogFault;
+use om_base::PAGE_SIZE;
 
 /// How many addresses there are.
 const ADDRESSES: u64 = 1 << 32;
@@ -25,47 +25,69 @@ pub struct Start {
 }
 
 impl Start {
-    ghost use Rattle.om_log.specs.Regions.{HasRoom, AreApart, IsLawfulStart};
+    ghost use Rattle.om_log.specs.Regions.{IsLawfulStart, ends_in_space, has_whole_pages, is_small, shares_none, start_fault};
 
     /// Whether the header of a log may have these regions.
     pub fn is_lawful(&self) -> bool
         ensures { IsTrue result ↔ IsLawfulStart self.now }
     {
-        self.has_room() && self.is_apart()
+        self.fault().is_none()
     }
 
-    /// Whether all four are multiples of 4096, there is a stack, and no region goes past the last
-    /// address or is too large.
-    fn has_room(&self) -> bool
-        ensures { IsTrue result ↔ HasRoom self.now }
+    /// The fault of the first rule that these regions break.
+    #[tactic(auto, unfolding(crate::specs::Regions::start_fault))]
+    pub(crate) fn fault(&self) -> Option<LogFault>
+        ensures { result ≡ start_fault self.now }
     {
-        self.has_whole_pages()
-            && self.stack_size > 0
-            && self.stack_end() <= ADDRESSES
-            && self.heap_end() <= ADDRESSES
-            && u64::from(self.stack_size) + u64::from(self.heap_size) <= MOST
+        if !self.has_whole_pages() {
+            return Some(LogFault::Region);
+        }
+        if self.stack_size == 0 {
+            return Some(LogFault::Region);
+        }
+        if !self.ends_in_space() {
+            return Some(LogFault::Region);
+        }
+        if !self.is_small() {
+            return Some(LogFault::Region);
+        }
+        if !self.shares_none() {
+            return Some(LogFault::Region);
+        }
+        None
     }
 
-    /// Whether all four are multiples of 4096.
+    /// Whether all four are those of whole pages.
     fn has_whole_pages(&self) -> bool
-        ensures { IsTrue result
-            ↔ ((self.now.stack_low % 4096 ≡ 0) × (self.now.stack_size % 4096 ≡ 0)
-            × (self.now.heap_low % 4096 ≡ 0) × (self.now.heap_size % 4096 ≡ 0)) }
+        ensures { result ≡ has_whole_pages self.now }
     {
-        self.stack_low % PAGE == 0
-            && self.stack_size % PAGE == 0
-            && self.heap_low % PAGE == 0
-            && self.heap_size % PAGE == 0
+        self.stack_low % PAGE_SIZE == 0
+            && self.stack_size % PAGE_SIZE == 0
+            && self.heap_low % PAGE_SIZE == 0
+            && self.heap_size % PAGE_SIZE == 0
+    }
+
+    /// Whether neither region goes past the last address.
+    fn ends_in_space(&self) -> bool
+        ensures { result ≡ ends_in_space self.now }
+    {
+        self.stack_end() <= ADDRESSES && self.heap_end() <= ADDRESSES
+    }
+
+    /// Whether both together aren't too large.
+    fn is_small(&self) -> bool
+        ensures { result ≡ is_small self.now }
+    {
+        u64::from(self.stack_size) + u64::from(self.heap_size) <= MOST
     }
 
     /// Whether no address lies in both regions.
-    fn is_apart(&self) -> bool
-        requires { 0 < self.now.stack_size }
-        ensures { IsTrue result ↔ AreApart self.now }
+    fn shares_none(&self) -> bool
+        ensures { result ≡ shares_none self.now }
     {
-        self.heap_size == 0
-            || self.stack_end() <= u64::from(self.heap_low)
-            || self.heap_end() <= u64::from(self.stack_low)
+        let low = u64::from(self.stack_low).max(u64::from(self.heap_low));
+        let end = self.stack_end().min(self.heap_end());
+        !(low < end)
     }
 
     /// The address behind the stack's last one.

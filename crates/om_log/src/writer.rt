@@ -2,8 +2,9 @@
 
 ghost use Rattle.std.specs.Prelude.{◌≡◌, ◌≢◌, [], ◌++◌, length, IfOk, OnOk, OnErr};
 ghost use Rattle.std.specs.List.{AllByRecursion};
+ghost use Rattle.om_base.specs.Appending.{PutsBehind};
 ghost use Rattle.om_log.specs.Grammar.{spelling, spellings, IsLawfulLog, IsLog};
-ghost use Rattle.om_log.specs.Appending.{IsFront, headed};
+ghost use Rattle.om_log.specs.Fronts.{IsFront, headed};
 ghost use Rattle.om_log.specs.Writing.{HasShortWrites, file_of};
 
 use crate::entry::Entry;
@@ -29,7 +30,7 @@ pub struct LogWriter {
 // before the first entry.
 impl Model for LogWriter {
     ghost use Rattle.std.specs.Prelude.{drop};
-    ghost use Rattle.om_log.specs.Appending.{IsHeaded};
+    ghost use Rattle.om_log.specs.Fronts.{IsHeaded};
     ghost use Rattle.om_log.specs.Writing.{Written};
 
     ghost Value = { Written };
@@ -112,8 +113,7 @@ fn push_all(writer: &mut LogWriter, entries: &[Entry<'_>]) -> Result<(), NoMemor
 /// Appends an entry, behind the header where nothing was there before.
 fn put_next(bytes: &mut Vec<u8>, start: &Start, entry: &Entry<'_>) -> Result<(), NoMemory>
     requires { HasShortWrites entry.now }
-    ensures ok { OnOk result (bytes.new.items
-        ≡ headed start.now bytes.old.items ++ spelling entry.now) }
+    ensures ok { PutsBehind result (headed start.now bytes.old.items) (spelling entry.now) bytes.new.items }
     ensures front { IsFront bytes.old.items bytes.new.items }
 {
     if bytes.is_empty() {

@@ -2,7 +2,7 @@
 
 ghost use Rattle.std.specs.Prelude.{◌≡◌, ◌<◌, ◌^◌, [], ◌∷◌, length};
 ghost use Rattle.om_log.specs.Chunk.{first_and_others};
-ghost use Rattle.om_log.specs.Reading.{chunks_in};
+ghost use Rattle.om_log.specs.EntryFields.{chunks_in};
 
 use crate::fields::chunk_of;
 use crate::write::Write;

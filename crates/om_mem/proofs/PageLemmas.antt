@@ -20,15 +20,15 @@ use Rattle.om_mem.proofs.OverlapLemmas.{overlap_from, overlap_of-from, overlap_p
 -- ---- regions apart
 
 -- no two of the regions share an address
-abbrev pub AreApart : List Region → Type 0
-AreApart [] = Unit {0}
-AreApart (r ∷ rs) = (position (shares r) rs ≡ None) × AreApart rs
+abbrev pub ShareNone : List Region → Type 0
+ShareNone [] = Unit {0}
+ShareNone (r ∷ rs) = (position (shares r) rs ≡ None) × ShareNone rs
 
-apart_from : (n : ℕ) (rs : List Region) → overlap_from n rs ≡ None → AreApart rs
+apart_from : (n : ℕ) (rs : List Region) → overlap_from n rs ≡ None → ShareNone rs
 apart_from n [] none = tt
 apart_from n (r ∷ rs) none = let parts = overlap_parts n r rs none in (parts.0, apart_from (n + 1) rs parts.1)
 
-pub are_apart : (rs : List Region) → overlap_of rs ≡ None → AreApart rs
+pub are_apart : (rs : List Region) → overlap_of rs ≡ None → ShareNone rs
 are_apart rs none = apart_from 0 rs (sym (overlap_of-from rs) ∙ none)
 
 holding : (low size k : ℕ) → k < size → (nat_le low (low + k) && nat_lt (low + k) (low + size)) ≡ true
@@ -96,7 +96,7 @@ address_at-place (r ∷ rs) q f at =
         rw place (get_or-append_right (counted r.low r.size) (addresses_of rs) r.size (r.size + g.0) 0 (length-counted r.low r.size) (omega arith) ∙ rw back rest.0, omega arith)
 
 -- the address at a place has that place, where regions are apart
-pub place_of-address : (rs : List Region) (k : ℕ) → AreApart rs → k < sum_by (λ (r : Region). r.size) rs → option_map (λ (f : ℕ × ℕ). f.0) (place_of rs (get_or (addresses_of rs) k 0)) ≡ Some k
+pub place_of-address : (rs : List Region) (k : ℕ) → ShareNone rs → k < sum_by (λ (r : Region). r.size) rs → option_map (λ (f : ℕ × ℕ). f.0) (place_of rs (get_or (addresses_of rs) k 0)) ≡ Some k
 place_of-address [] k apart less = absurd (omega arith)
 place_of-address (r ∷ rs) k apart less =
     elim (cases_lt k r.size) as (λ _. option_map (λ (f : ℕ × ℕ). f.0) (place_of (r ∷ rs) (get_or (counted r.low r.size ++ addresses_of rs) k 0)) ≡ Some k) [
@@ -203,7 +203,7 @@ insert-laid rs bs q b f whole at =
         ]
 
 -- to write bytes at the addresses from a place on is to set those from this place on
-pub stored-laid : (rs : List Region) (new bs : List ℕ) (k : ℕ) → AreApart rs → length bs ≡ sum_by (λ (r : Region). r.size) rs → k + length new ≤ length bs → stored (laid rs bs).bytes (take (length new) (drop k (addresses_of rs))) new ≡ (laid rs (sets bs k new)).bytes
+pub stored-laid : (rs : List Region) (new bs : List ℕ) (k : ℕ) → ShareNone rs → length bs ≡ sum_by (λ (r : Region). r.size) rs → k + length new ≤ length bs → stored (laid rs bs).bytes (take (length new) (drop k (addresses_of rs))) new ≡ (laid rs (sets bs k new)).bytes
 stored-laid rs [] bs k apart whole fits = refl
 stored-laid rs (b ∷ new) bs k apart whole fits =
     let many = length-addresses_of rs in

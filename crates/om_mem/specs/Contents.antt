@@ -8,6 +8,7 @@ use Rattle.std.specs.Coded.{Coded, code_by, coded×, coded_ℕ, coded_list}
 use Rattle.om_base.specs.Numbers.{le}
 use Rattle.om_base.specs.Spans as spans
 use Rattle.om_base.specs.declared.span.Span.{Span}
+use Rattle.om_mem.specs.Rights.{pf_w, pf_x}
 use Rattle.om_mem.specs.declared.region.Region.{Region}
 
 -- what memory is: its regions, and the bytes at their addresses
@@ -33,10 +34,10 @@ overlap_of regions = spans.overlap_of (map span_of regions)
 abbrev pub region_at : List Region → ℕ → Option Region
 region_at regions address = find (λ r. holds r address) regions
 
--- a region holds the address and gives a right to it: 1 to fetch, 2 to write, 4 to read
-abbrev pub may_at : List Region → ℕ → ℕ → Bool
-may_at regions address right =
-    option_map_or (λ r. nat_eq (bit_and r.rights right) right) (region_at regions address) false
+-- a region holds the address and gives these rights to it
+abbrev pub may_at : List Region → (address rights : ℕ) → Bool
+may_at regions address rights =
+    option_map_or (λ r. nat_eq (bit_and r.rights rights) rights) (region_at regions address) false
 
 -- a region by its place in the list
 abbrev pub region_in : List Region → ℕ → Region
@@ -68,13 +69,13 @@ loaded memory address count = option_map le (bytes_at memory (addresses_from add
 -- the word of four bytes from an address on, if each of them may be fetched
 unfoldable pub fetched : Contents → ℕ → Option ℕ
 fetched memory address =
-    if list_all (λ a. may_at memory.regions a 1) (addresses_from address 4) then loaded memory address 4 else None
+    if list_all (λ a. may_at memory.regions a pf_x) (addresses_from address 4) then loaded memory address 4 else None
 
 -- ---- writing
 
 -- the first of so many addresses from one on that may not be written
 unfoldable pub outside : List Region → (address count : ℕ) → Option ℕ
-outside regions address count = find (λ a. not (may_at regions a 2)) (addresses_from address count)
+outside regions address count = find (λ a. not (may_at regions a pf_w)) (addresses_from address count)
 
 -- a byte each at some addresses
 abbrev pub stored : fin.FinMap nat_cmp ℕ → List ℕ → List ℕ → fin.FinMap nat_cmp ℕ

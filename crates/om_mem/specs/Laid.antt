@@ -2,6 +2,7 @@
 use Rattle.std.specs.Prelude.{◌≡◌, ℕ, ◌+◌, ◌-◌, ◌*◌, ◌/◌, ◌^◌, ◌≤◌, ◌<◌, Bool, true, false, not, find, replicate, List, [], ◌∷◌, ◌++◌, length, take, drop, set, get_or, sum_by, All, Option, Some, None, if◌then◌else◌}
 use Rattle.std.specs.Option.{option_map}
 use Rattle.std.specs.FinMap as fin
+use Rattle.om_base.specs.Limits.{page_size}
 use Rattle.om_mem.specs.Contents.{Contents, addresses_from, holds, may_at, numbered, overlap_of}
 use Rattle.om_mem.specs.Pages.{page_count, flag}
 use Rattle.om_mem.specs.declared.region.Region.{Region}
@@ -18,7 +19,7 @@ laid regions bytes = record { regions = regions; bytes = fin.from_entries (cells
 
 -- a page of the laid out bytes
 unfoldable pub piece_of : List ℕ → ℕ → List ℕ
-piece_of bytes page = take 4096 (drop (page * 4096) bytes)
+piece_of bytes page = take page_size (drop (page * page_size) bytes)
 
 -- the place of an address among the laid out bytes, and its rights, if a region holds it
 abbrev pub place_of : List Region → ℕ → Option (ℕ × ℕ)
@@ -70,5 +71,5 @@ marked dirty first past = take first dirty ++ (replicate (past - first) true ++ 
 
 -- each byte whose page isn't flagged now is as before, and such a page wasn't flagged then
 pub record IsSame (bytes : List ℕ) (dirty : List Bool) (bytes_now : List ℕ) (dirty_now : List Bool) : Type 0 where
-  pub byte : (k : ℕ) → flag dirty_now (k / 4096) ≡ false → get_or bytes_now k 0 ≡ get_or bytes k 0
+  pub byte : (k : ℕ) → flag dirty_now (k / page_size) ≡ false → get_or bytes_now k 0 ≡ get_or bytes k 0
   pub flag : (page : ℕ) → flag dirty_now page ≡ false → flag dirty page ≡ false

@@ -1,5 +1,6 @@
 pub mod Contents
-pub mod Pages
 pub mod Gives
 pub mod Laid
 pub mod Laws
+pub mod Pages
+pub mod Rights

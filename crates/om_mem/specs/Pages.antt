@@ -1,7 +1,8 @@
--- Pages: the bytes of all regions, laid end to end, in pieces of 4096; and which of them were written.
-use Rattle.std.specs.Prelude.{◌≡◌, ℕ, zero, suc, ◌+◌, ◌*◌, ◌/◌, Bool, false, true, List, [], ◌∷◌, map, flat_map, take, drop, sum_by, replicate, get_or, unwrap_or, refl}
+-- Pages: the bytes of all regions, laid end to end, in pieces of one size; and which of them were written.
+use Rattle.std.specs.Prelude.{◌≡◌, ℕ, zero, suc, ◌+◌, ◌-◌, ◌*◌, ◌/◌, Bool, false, true, List, [], ◌∷◌, map, flat_map, take, drop, sum_by, replicate, get_or, unwrap_or, refl}
 use Rattle.std.specs.FinMap as fin
 use Rattle.std.specs.Coded.{Coded, code_by, coded×, coded_bool, coded_list}
+use Rattle.om_base.specs.Limits.{page_size}
 use Rattle.om_mem.specs.Contents.{Contents, contents_code, stored}
 use Rattle.om_mem.specs.declared.region.Region.{Region}
 
@@ -14,13 +15,13 @@ counted low (suc n) = low ∷ counted (low + 1) n
 abbrev pub addresses_of : List Region → List ℕ
 addresses_of regions = flat_map (λ r. counted r.low r.size) regions
 
--- the addresses of a page; the last page may have fewer than 4096
+-- the addresses of a page; the last page may have fewer than `page_size`
 unfoldable pub page_addresses : List Region → ℕ → List ℕ
-page_addresses regions page = take 4096 (drop (page * 4096) (addresses_of regions))
+page_addresses regions page = take page_size (drop (page * page_size) (addresses_of regions))
 
 -- how many pages there are
 abbrev pub page_count : List Region → ℕ
-page_count regions = (sum_by (λ r. r.size) regions + 4095) / 4096
+page_count regions = (sum_by (λ r. r.size) regions + (page_size - 1)) / page_size
 
 -- the byte at an address that a region holds
 abbrev pub byte_in : Contents → ℕ → ℕ

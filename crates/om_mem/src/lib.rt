@@ -11,6 +11,7 @@ mod memory;
 mod pages;
 mod reading;
 mod region;
+mod rights;
 mod spot;
 mod writing;
 
@@ -19,4 +20,5 @@ pub use map_fault::MapFault;
 pub use mapping::map_regions;
 pub use memory::Memory;
 pub use region::{Region, Regions};
+pub use rights::{PF_R, PF_W, PF_X};
 pub use writing::WriteOutside;

@@ -7,7 +7,7 @@ ghost use Rattle.om_mem.specs.Pages.{page_count};
 
 use crate::map_fault::MapFault;
 use crate::memory::Memory;
-use crate::pages::PAGE_SIZE;
+use crate::pages::PAGE;
 use crate::region::{Region, Regions};
 use crate::spot::Spot;
 use om_base::{NoMemory, Span, overlap};
@@ -81,7 +81,7 @@ pub fn map_regions(alloc: Global, regions: &Regions) -> Result<Memory, MapFault>
         return Err(MapFault::Overlap { a, b });
     }
     let size = total(listed);
-    let pages = (size + (PAGE_SIZE - 1)) / PAGE_SIZE;
+    let pages = (size + (PAGE - 1)) / PAGE;
     let regions = copied(alloc, listed)?;
     let bytes = zero_bytes(alloc, size)?;
     let dirty = clean_pages(alloc, pages)?;

@@ -1,22 +1,24 @@
-//! Pages: the bytes of all regions, laid end to end, in pieces of 4096.
+//! Pages: the bytes of all regions, laid end to end, in pieces of one size.
 
 ghost use Rattle.std.specs.Prelude.{◌≡◌, ◌≢◌, ◌*◌, ◌<◌, ◌≤◌, ◌+◌, ◌++◌, ℕ, false, drop, length, replicate, take};
+ghost use Rattle.om_base.specs.Limits.{page_size};
 ghost use Rattle.om_mem.specs.Contents.{IsWhole};
 ghost use Rattle.om_mem.specs.Laid.{piece_of};
 ghost use Rattle.om_mem.specs.Pages.{IsKept, cleared, flag, page_addresses, page_count, page_in, with_page};
 
 use crate::memory::Memory;
+use om_base::PAGE_SIZE;
 
 /// How many bytes a page has; the last one may have fewer.
-pub(crate) const PAGE_SIZE: usize = 4096;
+pub(crate) const PAGE: usize = PAGE_SIZE as usize;
 
 /// The bytes of a page among those of all pages.
 fn piece(bytes: &[u8], page: u32) -> &[u8]
-    requires { page * 4096 ≤ length bytes.now }
+    requires { page * page_size ≤ length bytes.now }
     ensures { result.now ≡ piece_of bytes.now page }
 {
-    let start = page as usize * PAGE_SIZE;
-    let end = (start + PAGE_SIZE).min(bytes.len());
+    let start = page as usize * PAGE;
+    let end = (start + PAGE).min(bytes.len());
     &bytes[start..end]
 }
 
@@ -43,10 +45,10 @@ impl Memory {
         ensures whole { IsWhole self.now.contents }
         ensures flags { length self.now.dirty ≡ result }
     {
-        ((self.bytes.len() + (PAGE_SIZE - 1)) / PAGE_SIZE) as u32
+        ((self.bytes.len() + (PAGE - 1)) / PAGE) as u32
     }
 
-    /// The bytes of a page: 4096, or fewer of the last one.
+    /// The bytes of a page, fewer of the last one than of the others.
     pub fn page(&self, page: u32) -> &[u8]
         requires { page < page_count self.now.contents.regions }
         ensures { result.now ≡ page_in self.now.contents page }
@@ -63,7 +65,7 @@ impl Memory {
         ensures others { (other : ℕ) → other ≢ page → page_in self.new.contents other ≡ page_in self.old.contents other }
         ensures kept { IsKept self.old self.new }
     {
-        put_at(self.bytes.as_mut_slice(), page as usize * PAGE_SIZE, bytes);
+        put_at(self.bytes.as_mut_slice(), page as usize * PAGE, bytes);
         self.dirty.as_mut_slice()[page as usize] = true;
     }
 

@@ -9,6 +9,7 @@ ghost use Rattle.om_mem.specs.Laid.{AreMapped, IsSpot, laid, place_of, refusing}
 
 use crate::memory::Memory;
 use crate::region::Region;
+use crate::rights::PF_X;
 use crate::spot::{Spot, find_near, find_spot};
 use crate::writing::first_outside;
 
@@ -152,7 +153,7 @@ fn word_across(regions: &[Region], bytes: &[u8], address: u32) -> Option<u32>
     requires whole { length bytes.now ≡ sum_by (λ r. r.size) regions.now }
     ensures { result ≡ fetched (laid regions.now bytes.now) address }
 {
-    if !may_all(regions, address, 4, 1) {
+    if !may_all(regions, address, 4, PF_X) {
         return None;
     }
     number_across(regions, bytes, address, 4)
@@ -166,7 +167,7 @@ fn word_near(_regions: &[Region], bytes: &[u8], near: &Spot, address: u32) -> Op
     requires high { address + 4 ≤ near.now.low + near.now.size }
     ensures { result ≡ fetched (laid _regions.now bytes.now) address }
 {
-    if near.rights & 1 != 1 {
+    if near.rights & PF_X != PF_X {
         return None;
     }
     Some(number_from(bytes, near.at + (address - near.low) as usize, 4))
@@ -202,7 +203,7 @@ impl Memory {
         byte_at(self.regions.as_slice(), self.bytes.as_slice(), address)
     }
 
-    /// Whether a region holds `address` and gives each of the rights: 1 to fetch, 2 to write, 4 to read,
+    /// Whether a region holds `address` and gives each of the rights: `PF_X`, `PF_W` and `PF_R`,
     /// added up.
     #[tactic(auto, unfolding(crate::specs::Laid::laid))]
     pub fn may(&self, address: u32, rights: u8) -> bool

@@ -12,7 +12,7 @@ pub struct Region {
     pub low: u32,
     /// How many addresses it has; none of them is above 2^32 - 1.
     pub size: u32,
-    /// 1 to fetch, 2 to write and 4 to read, added up.
+    /// `PF_X`, `PF_W` and `PF_R`, added up.
     pub rights: u8,
 }
 

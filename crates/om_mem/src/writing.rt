@@ -1,14 +1,16 @@
 //! Writing into memory.
 
 ghost use Rattle.std.specs.Prelude.{◌≡◌, ◌+◌, ◌-◌, ◌*◌, ◌/◌, ◌^◌, ◌≤◌, ◌<◌, ◌⊎◌, length, take, drop, set, sum_by, true, false, is_none, None, Some, if◌then◌else◌, OnOk, OnErr, IfErr};
+ghost use Rattle.om_base.specs.Limits.{page_size};
 ghost use Rattle.om_mem.specs.Contents.{addresses_from, after_write, low_bytes, outside, region_in, stored};
 ghost use Rattle.om_mem.specs.Laid.{AreMapped, IsSame, IsSpot, laid, marked, overlaid};
 ghost use Rattle.om_mem.specs.Pages.{IsKept, page_count};
 
 use crate::memory::Memory;
-use crate::pages::{PAGE_SIZE, put_at};
+use crate::pages::{PAGE, put_at};
 use crate::reading::first_without;
 use crate::region::Region;
+use crate::rights::PF_W;
 use crate::spot::{Spot, find_near, find_spot};
 
 /// A byte that can't be written.
@@ -24,7 +26,7 @@ pub(crate) fn first_outside(regions: &[Region], address: u32, count: usize) -> O
     requires { AreMapped regions.now }
     ensures { result ≡ outside regions.now address count }
 {
-    first_without(regions, address, count, 2)
+    first_without(regions, address, count, PF_W)
 }
 
 /// Writes the low bytes of a number from a place on.
@@ -50,29 +52,29 @@ fn put_number(bytes: &mut [u8], at: usize, count: u8, value: u32)
 /// The pages of so few bytes from a place on count as written.
 fn mark(dirty: &mut [bool], at: usize, count: u8)
     requires some { 0 < count }
-    requires fits { at + count ≤ 4096 * length dirty.old }
+    requires fits { at + count ≤ page_size * length dirty.old }
     requires small { at + count ≤ 67108864 }
-    ensures { dirty.new ≡ set (set dirty.old (at / 4096) true) ((at + count - 1) / 4096) true }
+    ensures { dirty.new ≡ set (set dirty.old (at / page_size) true) ((at + count - 1) / page_size) true }
 {
-    dirty[at / PAGE_SIZE] = true;
-    dirty[(at + usize::from(count) - 1) / PAGE_SIZE] = true;
+    dirty[at / PAGE] = true;
+    dirty[(at + usize::from(count) - 1) / PAGE] = true;
 }
 
 /// The pages of so many bytes from a place on count as written.
 fn mark_all(dirty: &mut [bool], at: usize, count: usize)
-    requires fits { at + count ≤ 4096 * length dirty.old }
+    requires fits { at + count ≤ page_size * length dirty.old }
     requires small { at + count ≤ 67108864 }
-    ensures { dirty.new ≡ marked dirty.old (at / 4096) ((at + count + 4095) / 4096) }
+    ensures { dirty.new ≡ marked dirty.old (at / page_size) ((at + count + (page_size - 1)) / page_size) }
 {
-    let first = at / PAGE_SIZE;
-    let past = (at + count + (PAGE_SIZE - 1)) / PAGE_SIZE;
+    let first = at / PAGE;
+    let past = (at + count + (PAGE - 1)) / PAGE;
     dirty[first..past].fill(true);
 }
 
 /// Writes bytes from a place on.
 fn put_from(bytes: &mut [u8], dirty: &mut [bool], at: usize, new: &[u8])
     requires fits { at + length new.now ≤ length bytes.old }
-    requires flags { length bytes.old ≤ 4096 * length dirty.old }
+    requires flags { length bytes.old ≤ page_size * length dirty.old }
     requires small { length bytes.old ≤ 67108864 }
     ensures bytes { bytes.new ≡ overlaid bytes.old at new.now }
     ensures flags { length dirty.new ≡ length dirty.old }
@@ -170,7 +172,7 @@ fn write_near(
     ensures flags { length dirty.new ≡ length dirty.old }
     ensures same { IsSame bytes.old dirty.old bytes.new dirty.new }
 {
-    if near.rights & 2 != 2 {
+    if near.rights & PF_W != PF_W {
         return false;
     }
     let at = near.at + (address - near.low) as usize;

@@ -1,21 +1,33 @@
 -- Debugging information is read in one way.
-use Rattle.std.proofs.Common.{◌≡◌, ℕ, Bool, true, false, cond, List, [], ◌∷◌, ◌++◌, Option, Some, None, codes, refl, sym, ap, ◌∙◌, ◌⊎◌, inl, inr}
-use Rattle.std.specs.Prelude.{All, find}
+use Rattle.std.proofs.Common.{◌≡◌, ℕ, ◌<◌, ◌^◌, Bool, true, false, cond, List, [], ◌∷◌, ◌++◌, length, Some, None, Result, Ok, Err, codes, refl, sym, ap, subst, ◌∙◌, ◌⊎◌, inl, inr}
+use Rattle.std.specs.Prelude.{All, IfErr, IfOk, find}
 use Rattle.std.specs.Option.{option_and_then, option_or}
 use Rattle.std.proofs.lemmas.List.Elements.{All-head, All-tail}
 use Rattle.std.proofs.lemmas.List.Folds.{find-append}
 use Rattle.om_die.specs.Refusals.{IsRefusal}
-use Rattle.om_die.specs.Units.{AreUnits, Sections}
+use Rattle.om_die.specs.Units.{AreUnits, dies_of_units}
 use Rattle.om_die.specs.declared.fault.DieFault.{DieFault}
+use Rattle.om_die.specs.declared.fault.DieFault.TheVariants as d
 use Rattle.om_die.specs.declared.unit.Units.{Units}
+use Rattle.om_die.proofs.TotalLaws.{units_or_refusal}
+use Rattle.om_die.proofs.UnitOnce.{not_refused, one_refusal, one_units}
 use Rattle.om_elf.specs.declared.elf.Elf.{Elf}
+use Rattle.om_line.specs.Tables.{tables_fault}
+use Rattle.om_line.specs.declared.fault.LineFault.{LineFault}
+use Rattle.om_line.specs.declared.fault.LineFault.TheVariants as l
+use Rattle.om_line.specs.declared.lines.Lines.{Lines}
 use Rattle.om_names.specs.Functions.{func_at, holds, name_of}
-use Rattle.om_names.specs.Information.{Entry, Information, entries_of, section, unit_sections}
-use Rattle.om_names.specs.Known.{info_of}
+use Rattle.om_names.specs.Information.{Entry, Information, entries_of, info_of, section, unit_sections}
+use Rattle.om_names.specs.Known.{Known, Knows}
 use Rattle.om_names.specs.Ranges.{first_range_fault}
-use Rattle.om_names.specs.Reading.{HasRangeFault, IsInformation, IsLawful, IsRefused}
+use Rattle.om_names.specs.LineTables.{line_fault, line_section, line_tables, line_offsets}
+use Rattle.om_names.specs.Stage.{Stage, followed_by, gives_or_refuses, giving}
+use Rattle.om_names.specs.Stages.{IsLawful, IsRefused, all_stages, lines_stage, ranges_stage, types_stage, units_stage}
+use Rattle.om_names.specs.Types.{type_fault}
 use Rattle.om_names.specs.declared.fault.NamesFault.{NamesFault}
 use Rattle.om_names.specs.declared.fault.NamesFault.TheVariants as n
+use Rattle.om_names.proofs.KnownLemmas.{few_dies, few_units}
+use Rattle.om_names.proofs.StageLaws.{HasOneOutcome, HasOutcome, one_followed, one_giving, one_outcome, one_unless, some_followed, some_giving, some_outcome, some_unless}
 
 -- ---- the first function
 
@@ -38,47 +50,190 @@ the_first info pc before after entry parts none here =
 
 -- ---- one reading
 
-module _ (one : (sections : Sections) (a b : Units) → AreUnits sections a → AreUnits sections b → a ≡ b) where
-  pub one_info : (elf : Elf) (a b : Information) → IsInformation elf a → IsInformation elf b → a ≡ b
-  one_info elf a b is are =
-      ap (λ us. info_of us a.ranges) (one (unit_sections elf) a.units b.units is.units are.units) ∙ ap (info_of b.units) (is.ranges ∙ sym are.ranges)
+module _ (elf : Elf) where
+  one_of_units : HasOneOutcome (units_stage elf)
+  one_of_units = one_outcome (AreUnits (unit_sections elf)) (IsRefusal (unit_sections elf)) n.Info (one_units (unit_sections elf)) (one_refusal (unit_sections elf)) (not_refused (unit_sections elf))
 
-  pub one_lawful : (elf : Elf) (a b : Information) → IsLawful elf a → IsLawful elf b → a ≡ b
-  one_lawful elf a b is are = one_info elf a b is.is are.is
+  one_of_ranges : (units : Units) → HasOneOutcome (ranges_stage elf units)
+  one_of_ranges units = one_unless (first_range_fault (section elf (codes ".debug_ranges")) units) (section elf (codes ".debug_ranges")) n.Ranges
 
-  range_apart : (elf : Elf) (info : Information) (fault : NamesFault) → IsLawful elf info → HasRangeFault elf fault → ⊥
-  range_apart elf info fault is refused =
-      let same : info ≡ refused.info = one_info elf info refused.info is.is refused.is in
-      let never : None ≡ Some refused.told = sym is.ended ∙ ap first_range_fault same ∙ refused.first in
-      cc
+  one_of_lines : (units : Units) → HasOneOutcome (lines_stage elf units)
+  one_of_lines units = one_unless (line_fault elf units) (line_tables elf units) n.Lines
 
-  one_range : (elf : Elf) (f g : NamesFault) → HasRangeFault elf f → HasRangeFault elf g → f ≡ g
-  one_range elf f g is are =
-      let same : is.info ≡ are.info = one_info elf is.info are.info is.is are.is in
-      let both : Some is.told ≡ Some are.told = sym is.first ∙ ap first_range_fault same ∙ are.first in
-      let told : is.told ≡ are.told = cc in
-      is.fault_is ∙ ap (λ t. n.Ranges t) told ∙ sym are.fault_is
+  one_of_types : (units : Units) → HasOneOutcome (types_stage units)
+  one_of_types units = one_unless (type_fault units) tt n.TypeLoop
 
-  module _ (refusal : (sections : Sections) (f g : DieFault) → IsRefusal sections f → IsRefusal sections g → f ≡ g)
-      (apart : (sections : Sections) (units : Units) (fault : DieFault) → AreUnits sections units → IsRefusal sections fault → ⊥) where
-    pub lawful_or_refused : (elf : Elf) (info : Information) (fault : NamesFault) → IsLawful elf info → IsRefused elf fault → ⊥
-    lawful_or_refused elf info fault is (inl unit) = apart (unit_sections elf) info.units unit.told is.is.units unit.refused
-    lawful_or_refused elf info fault is (inr range) = range_apart elf info fault is range
+  -- the stages behind the units, behind the range lists, and behind the line tables
+  abbrev behind_lines : (units : Units) → List ℕ → List Lines → Stage Information
+  behind_lines units ranges lines = followed_by (types_stage units) (λ typed. giving (info_of units ranges lines))
 
-    pub one_refused : (elf : Elf) (f g : NamesFault) → IsRefused elf f → IsRefused elf g → f ≡ g
-    one_refused elf f g (inl is) (inl are) = is.fault_is ∙ ap (λ t. n.Info t) (refusal (unit_sections elf) is.told are.told is.refused are.refused) ∙ sym are.fault_is
-    one_refused elf f g (inl is) (inr are) = absurd (apart (unit_sections elf) are.info.units is.told are.is.units is.refused)
-    one_refused elf f g (inr is) (inl are) = absurd (apart (unit_sections elf) is.info.units are.told is.is.units are.refused)
-    one_refused elf f g (inr is) (inr are) = one_range elf f g is are
+  abbrev behind_ranges : (units : Units) → List ℕ → Stage Information
+  behind_ranges units ranges = followed_by (lines_stage elf units) (behind_lines units ranges)
 
--- each executable has an information or a refusal
-pub some_reading : ((sections : Sections) → ((units : Units) × AreUnits sections units) ⊎ ((fault : DieFault) × IsRefusal sections fault))
-    → (elf : Elf) → ((info : Information) × IsLawful elf info) ⊎ ((fault : NamesFault) × IsRefused elf fault)
-some_reading total elf = elim (total (unit_sections elf)) [
-  | inl units ↦ judged elf (info_of units.0 (section elf (codes ".debug_ranges"))) (record { units = units.1; ranges = refl }) (first_range_fault (info_of units.0 (section elf (codes ".debug_ranges")))) refl
-  | inr fault ↦ inr (n.Info fault.0, inl (record { told = fault.0; refused = fault.1; fault_is = refl }))
+  abbrev behind_units : (units : Units) → Stage Information
+  behind_units units = followed_by (ranges_stage elf units) (behind_ranges units)
+
+  pub one_reading : HasOneOutcome (all_stages elf)
+  unfolding all_stages
+  one_reading =
+      one_followed (units_stage elf) behind_units one_of_units
+      (λ units. one_followed (ranges_stage elf units) (behind_ranges units) (one_of_ranges units)
+      (λ ranges. one_followed (lines_stage elf units) (behind_lines units ranges) (one_of_lines units)
+      (λ lines. one_followed (types_stage units) (λ typed. giving (info_of units ranges lines)) (one_of_types units) (λ typed. one_giving (info_of units ranges lines)))))
+
+  pub one_information : (a b : Information) → IsLawful elf a → IsLawful elf b → a ≡ b
+  one_information a b is are = let same : Ok a ≡ Ok b = one_reading (Ok a) (Ok b) is are in cc
+
+  pub one_fault : (f g : NamesFault) → IsRefused elf f → IsRefused elf g → f ≡ g
+  one_fault f g is are = let same : Err f ≡ Err g = one_reading (Err f) (Err g) is are in cc
+
+  pub lawful_or_refused : (info : Information) (fault : NamesFault) → IsLawful elf info → IsRefused elf fault → ⊥
+  lawful_or_refused info fault is refused = let same : Ok info ≡ Err fault = one_reading (Ok info) (Err fault) is refused in cc
+
+  -- ---- some reading
+
+  some_of_units : HasOutcome (units_stage elf)
+  some_of_units = some_outcome (AreUnits (unit_sections elf)) (IsRefusal (unit_sections elf)) n.Info (units_or_refusal (unit_sections elf))
+
+  some_of_ranges : (units : Units) → HasOutcome (ranges_stage elf units)
+  some_of_ranges units = some_unless (first_range_fault (section elf (codes ".debug_ranges")) units) (section elf (codes ".debug_ranges")) n.Ranges
+
+  some_of_lines : (units : Units) → HasOutcome (lines_stage elf units)
+  some_of_lines units = some_unless (line_fault elf units) (line_tables elf units) n.Lines
+
+  some_of_types : (units : Units) → HasOutcome (types_stage units)
+  some_of_types units = some_unless (type_fault units) tt n.TypeLoop
+
+  all_outcome : HasOutcome (all_stages elf)
+  unfolding all_stages
+  all_outcome =
+      some_followed (units_stage elf) behind_units some_of_units
+      (λ units. some_followed (ranges_stage elf units) (behind_ranges units) (some_of_ranges units)
+      (λ ranges. some_followed (lines_stage elf units) (behind_lines units ranges) (some_of_lines units)
+      (λ lines. some_followed (types_stage units) (λ typed. giving (info_of units ranges lines)) (some_of_types units) (λ typed. some_giving (info_of units ranges lines)))))
+
+  either : (x : Result Information NamesFault) → all_stages elf x → ((info : Information) × IsLawful elf info) ⊎ ((fault : NamesFault) × IsRefused elf fault)
+  either (Ok info) is = inl (info, is)
+  either (Err fault) is = inr (fault, is)
+
+  pub some_reading : ((info : Information) × IsLawful elf info) ⊎ ((fault : NamesFault) × IsRefused elf fault)
+  some_reading = either all_outcome.0 all_outcome.1
+
+  -- ---- what is read
+
+  -- an answer that is right is the only one, but for want of memory
+  pub reads_all : (result : Result Known NamesFault) → IfOk result (λ known. (info : Information) × IsLawful elf info × Knows info known) → IfErr result (λ fault. (fault ≡ n.NoMemory) ⊎ IsRefused elf fault)
+      → (info : Information) → IsLawful elf info → IfOk result (Knows info) × IfErr result (λ fault. fault ≡ n.NoMemory)
+  reads_all (Ok known) reads refuses info lawful = (subst (λ i. Knows i known) (one_information reads.0 info reads.1 lawful) reads.2, tt)
+  reads_all (Err fault) reads (inl none) info lawful = (tt, none)
+  reads_all (Err fault) reads (inr refused) info lawful = absurd (lawful_or_refused info fault lawful refused)
+
+  pub refuses_all : (result : Result Known NamesFault) → IfOk result (λ known. (info : Information) × IsLawful elf info × Knows info known) → IfErr result (λ fault. (fault ≡ n.NoMemory) ⊎ IsRefused elf fault)
+      → (fault : NamesFault) → IsRefused elf fault → (result ≡ Err fault) ⊎ (result ≡ Err n.NoMemory)
+  refuses_all (Ok known) reads refuses fault refused = absurd (lawful_or_refused reads.0 fault reads.1 refused)
+  refuses_all (Err told) reads (inl none) fault refused = inr (ap (λ f. Err f) none)
+  refuses_all (Err told) reads (inr is) fault refused = inl (ap (λ f. Err f) (one_fault told fault is refused))
+
+-- ---- stage by stage
+
+pub lawful : (elf : Elf) (units : Units) (ranges : List ℕ) (lines : List Lines) → units_stage elf (Ok units) → ranges_stage elf units (Ok ranges) → lines_stage elf units (Ok lines) → type_fault units ≡ None → IsLawful elf (info_of units ranges lines)
+unfolding all_stages followed_by gives_or_refuses
+lawful elf units ranges lines are listed named typed = (units, are, (ranges, listed, (lines, named, (tt, (refl, typed), refl))))
+
+refused_by_units : (elf : Elf) (fault : NamesFault) → units_stage elf (Err fault) → IsRefused elf fault
+unfolding all_stages followed_by
+refused_by_units elf fault refused = inl refused
+
+refused_by_ranges : (elf : Elf) (units : Units) (fault : NamesFault) → units_stage elf (Ok units) → ranges_stage elf units (Err fault) → IsRefused elf fault
+unfolding all_stages followed_by
+refused_by_ranges elf units fault are refused = inr (units, are, inl refused)
+
+refused_by_lines : (elf : Elf) (units : Units) (ranges : List ℕ) (fault : NamesFault) → units_stage elf (Ok units) → ranges_stage elf units (Ok ranges) → lines_stage elf units (Err fault) → IsRefused elf fault
+unfolding all_stages followed_by
+refused_by_lines elf units ranges fault are listed refused = inr (units, are, inr (ranges, listed, inl refused))
+
+refused_by_types : (elf : Elf) (units : Units) (ranges : List ℕ) (lines : List Lines) (at : ℕ) → units_stage elf (Ok units) → ranges_stage elf units (Ok ranges) → lines_stage elf units (Ok lines) → type_fault units ≡ Some at
+    → IsRefused elf (n.TypeLoop at)
+unfolding all_stages followed_by gives_or_refuses
+refused_by_types elf units ranges lines at are listed named first = inr (units, are, inr (ranges, listed, inr (lines, named, inl (at, first, refl))))
+
+-- ... where memory may be wanting
+pub types_refused : (elf : Elf) (units : Units) (ranges : List ℕ) (lines : List Lines) (fault : NamesFault) → units_stage elf (Ok units) → ranges_stage elf units (Ok ranges) → lines_stage elf units (Ok lines)
+    → (fault ≡ n.NoMemory) ⊎ ((at : ℕ) × (fault ≡ n.TypeLoop at) × (type_fault units ≡ Some at)) → (fault ≡ n.NoMemory) ⊎ IsRefused elf fault
+types_refused elf units ranges lines fault are listed named (inl none) = inl none
+types_refused elf units ranges lines fault are listed named (inr loop) = inr (subst (IsRefused elf) (sym loop.1) (refused_by_types elf units ranges lines loop.0 are listed named loop.2))
+
+pub units_refused : (elf : Elf) (fault : NamesFault) → (fault ≡ n.NoMemory) ⊎ units_stage elf (Err fault) → (fault ≡ n.NoMemory) ⊎ IsRefused elf fault
+units_refused elf fault (inl none) = inl none
+units_refused elf fault (inr refused) = inr (refused_by_units elf fault refused)
+
+pub ranges_refused : (elf : Elf) (units : Units) (fault : NamesFault) → units_stage elf (Ok units) → (fault ≡ n.NoMemory) ⊎ ranges_stage elf units (Err fault) → (fault ≡ n.NoMemory) ⊎ IsRefused elf fault
+ranges_refused elf units fault are (inl none) = inl none
+ranges_refused elf units fault are (inr refused) = inr (refused_by_ranges elf units fault are refused)
+
+pub lines_refused : (elf : Elf) (units : Units) (ranges : List ℕ) (fault : NamesFault) → units_stage elf (Ok units) → ranges_stage elf units (Ok ranges) → (fault ≡ n.NoMemory) ⊎ lines_stage elf units (Err fault)
+    → (fault ≡ n.NoMemory) ⊎ IsRefused elf fault
+lines_refused elf units ranges fault are listed (inl none) = inl none
+lines_refused elf units ranges fault are listed (inr refused) = inr (refused_by_lines elf units ranges fault are listed refused)
+
+-- ---- the units
+
+pub given_units : (elf : Elf) (units : Units) → AreUnits (unit_sections elf) units → units_stage elf (Ok units)
+unfolding gives_or_refuses
+given_units elf units are = are
+
+pub few_units_of : (elf : Elf) (units : Units) → units_stage elf (Ok units) → length (unit_sections elf).info < 2 ^ 32 → length units.list < 2 ^ 32
+unfolding gives_or_refuses
+few_units_of elf units are short = few_units (unit_sections elf) units are short
+
+pub few_dies_of : (elf : Elf) (units : Units) → units_stage elf (Ok units) → length (dies_of_units units.list) < 2 ^ 32
+unfolding gives_or_refuses
+few_dies_of elf units are = few_dies (unit_sections elf) units are
+
+-- the units' refusal, or want of memory
+memory_or_not : (fault : DieFault) → (fault ≡ d.NoMemory) ⊎ (fault ≡ d.NoMemory → ⊥)
+memory_or_not d.NoMemory = inl refl
+memory_or_not (d.Short at) = inr (λ e. cc)
+memory_or_not (d.Abbrev at) = inr (λ e. cc)
+memory_or_not (d.Form at) = inr (λ e. cc)
+memory_or_not (d.Target at) = inr (λ e. cc)
+memory_or_not (d.TooMany at) = inr (λ e. cc)
+
+pub refused_units : (elf : Elf) (fault : DieFault) (told : NamesFault) → (fault ≡ d.NoMemory) ⊎ IsRefusal (unit_sections elf) fault → (fault ≡ d.NoMemory → told ≡ n.NoMemory) → ((fault ≡ d.NoMemory → ⊥) → told ≡ n.Info fault)
+    → (told ≡ n.NoMemory) ⊎ units_stage elf (Err told)
+unfolding gives_or_refuses
+refused_units elf fault told (inl none) memory info = inl (memory none)
+refused_units elf fault told (inr refused) memory info = elim (memory_or_not fault) [ inl none ↦ inl (memory none) | inr some ↦ inr (fault, refused, info some) ]
+
+-- ---- the range lists
+
+pub given_ranges : (elf : Elf) (units : Units) (ranges : List ℕ) → ranges ≡ section elf (codes ".debug_ranges") → first_range_fault ranges units ≡ None → ranges_stage elf units (Ok ranges)
+unfolding gives_or_refuses
+given_ranges elf units ranges are ended = (are, ap (λ rs. first_range_fault rs units) (sym are) ∙ ended)
+
+pub refused_ranges : (elf : Elf) (units : Units) (ranges : List ℕ) (fault : DieFault) → ranges ≡ section elf (codes ".debug_ranges") → first_range_fault ranges units ≡ Some fault → ranges_stage elf units (Err (n.Ranges fault))
+unfolding gives_or_refuses
+refused_ranges elf units ranges fault are first = (fault, ap (λ rs. first_range_fault rs units) (sym are) ∙ first, refl)
+
+-- ---- the line tables
+
+pub given_lines : (elf : Elf) (units : Units) (bytes offsets : List ℕ) → bytes ≡ line_section elf → offsets ≡ line_offsets units.list → tables_fault bytes offsets ≡ None → lines_stage elf units (Ok (line_tables elf units))
+unfolding gives_or_refuses
+given_lines elf units bytes offsets are all sound = (refl, ap (λ bs. tables_fault bs (line_offsets units.list)) (sym are) ∙ ap (tables_fault bytes) (sym all) ∙ sound)
+
+line_memory_or_not : (fault : LineFault) → (fault ≡ l.NoMemory) ⊎ (fault ≡ l.NoMemory → ⊥)
+line_memory_or_not l.NoMemory = inl refl
+line_memory_or_not (l.Short at) = inr (λ e. cc)
+line_memory_or_not (l.Version at) = inr (λ e. cc)
+line_memory_or_not (l.Header at) = inr (λ e. cc)
+line_memory_or_not (l.Opcode at) = inr (λ e. cc)
+
+pub refused_lines : (elf : Elf) (units : Units) (bytes offsets : List ℕ) (fault : LineFault) (told : NamesFault) → bytes ≡ line_section elf → offsets ≡ line_offsets units.list
+    → (fault ≡ l.NoMemory) ⊎ (tables_fault bytes offsets ≡ Some fault) → (fault ≡ l.NoMemory → told ≡ n.NoMemory) → ((fault ≡ l.NoMemory → ⊥) → told ≡ n.Lines fault)
+    → (told ≡ n.NoMemory) ⊎ lines_stage elf units (Err told)
+unfolding gives_or_refuses
+refused_lines elf units bytes offsets fault told are all (inl none) memory lines = inl (memory none)
+refused_lines elf units bytes offsets fault told are all (inr first) memory lines = elim (line_memory_or_not fault) [
+  | inl none ↦ inl (memory none)
+  | inr some ↦ inr (fault, ap (λ bs. tables_fault bs (line_offsets units.list)) (sym are) ∙ ap (tables_fault bytes) (sym all) ∙ first, lines some)
 ]
-  where
-    judged : (elf : Elf) (info : Information) → IsInformation elf info → (told : Option DieFault) → first_range_fault info ≡ told → ((i : Information) × IsLawful elf i) ⊎ ((fault : NamesFault) × IsRefused elf fault)
-    judged elf info is None none = inl (info, record { is = is; ended = none })
-    judged elf info is (Some told) first = inr (n.Ranges told, inr (record { info = info; is = is; told = told; first = first; fault_is = refl }))

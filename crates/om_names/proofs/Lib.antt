@@ -1,7 +1,12 @@
-pub mod PieceLemmas
 pub mod NameLemmas
-pub mod EndLemmas
-pub mod WalkLemmas
+pub mod TypeLemmas
+pub mod ListEndLemmas
+pub mod EntryByEntryLemmas
 pub mod KnownLemmas
-pub mod ReadLemmas
+pub mod StageLaws
 pub mod DebugLaws
+pub mod WalkLemmas
+pub mod ByNameLemmas
+pub mod CatalogLemmas
+pub mod VariableLemmas
+pub mod VariableLaws

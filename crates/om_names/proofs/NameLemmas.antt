@@ -1,4 +1,4 @@
--- What entries tell of their names, entry by entry.
+-- What entries tell of their names and types, entry by entry.
 use Rattle.std.proofs.Common.{◌≡◌, ℕ, zero, suc, ◌+◌, ◌-◌, ◌<◌, Bool, true, false, cond, nat_eq, List, [], ◌∷◌, ◌++◌, length, get_or, take, Option, Some, None, refl, sym, ap, subst, ◌∙◌, arith, append_assoc, append-nil}
 use Rattle.std.specs.Option.{option_and_then, option_map, option_or}
 use Rattle.std.specs.List.{find}
@@ -8,8 +8,8 @@ use Rattle.std.proofs.lemmas.List.Folds.{find-append}
 use Rattle.om_die.specs.Units.{dies_of_units}
 use Rattle.om_die.specs.declared.die.Die.{Die}
 use Rattle.om_die.specs.declared.unit.Unit.{Unit}
-use Rattle.om_names.specs.Functions.{entry_at, link_of, name_in, own_name}
-use Rattle.om_names.specs.Names.{AreNames, find_in, name_by, told_at, told_of}
+use Rattle.om_names.specs.Functions.{entry_at, link_of, reached}
+use Rattle.om_names.specs.Names.{AreNames, find_in, reached_by, told_at, told_of}
 use Rattle.om_names.specs.declared.names.Names.{Names}
 use Rattle.om_names.specs.declared.names.Told.{Told}
 
@@ -42,38 +42,42 @@ pub units_more : (units : List Unit) (i : ℕ) (unit d : Unit) → i < length un
 units_more units i unit d within at =
     ap dies_of_units (take_more units i d within) ∙ ap (λ x. dies_of_units (take i units ++ x ∷ [])) (sym at) ∙ flat_map-append (λ (unit : Unit). unit.dies) (take i units) (unit ∷ []) ∙ ap (λ ds. dies_of_units (take i units) ++ ds) (append-nil unit.dies)
 
--- ---- names
+-- ---- what is reached
 
-pub name_step : (links : ℕ) (find : ℕ → Option Told) (told : Told) → (links ≡ 0 → ⊥) → name_by links find told ≡ option_or told.name (option_and_then (name_by (links - 1) find) (option_and_then find told.link))
-unfolding name_by
-name_step zero find told some = absurd (some refl)
-name_step (suc links) find told some = let less : suc links - 1 ≡ links = omega arith in rw less refl
+module _ {A : Type 0} (own : Told → Option A) where
+  reached_step : (links : ℕ) (find : ℕ → Option Told) (told : Told) → (links ≡ 0 → ⊥) → reached_by own links find told ≡ option_or (own told) (option_and_then (reached_by own (links - 1) find) (option_and_then find told.link))
+  unfolding reached_by
+  reached_step zero find told some = absurd (some refl)
+  reached_step (suc links) find told some = let less : suc links - 1 ≡ links = omega arith in rw less refl
 
-pub own_told : (links : ℕ) (find : ℕ → Option Told) (told : Told) (name : List ℕ) → told.name ≡ Some name → Some name ≡ name_by links find told
-unfolding name_by
-own_told zero find told name is = sym is
-own_told (suc links) find told name is = rw is refl
+  pub own_told : (links : ℕ) (find : ℕ → Option Told) (told : Told) (it : A) → own told ≡ Some it → Some it ≡ reached_by own links find told
+  unfolding reached_by
+  own_told zero find told it is = sym is
+  own_told (suc links) find told it is = sym (ap (λ o. option_or o (option_and_then (reached_by own links find) (option_and_then find told.link))) is)
 
-pub none_told : (links : ℕ) (find : ℕ → Option Told) (told : Told) → links ≡ 0 → told.name ≡ None → None ≡ name_by links find told
-unfolding name_by
-none_told zero find told none is = sym is
-none_told (suc links) find told none is = absurd (omega arith)
+  pub none_told : (links : ℕ) (find : ℕ → Option Told) (told : Told) → links ≡ 0 → own told ≡ None → None ≡ reached_by own links find told
+  unfolding reached_by
+  none_told zero find told none is = sym is
+  none_told (suc links) find told none is = absurd (omega arith)
 
-pub next_told : (links : ℕ) (find : ℕ → Option Told) (told : Told) → (links ≡ 0 → ⊥) → told.name ≡ None → option_and_then (name_by (links - 1) find) (option_and_then find told.link) ≡ name_by links find told
-next_told links find told some is = sym (name_step links find told some ∙ ap (λ n. option_or n (option_and_then (name_by (links - 1) find) (option_and_then find told.link))) is)
+  pub next_told : (links : ℕ) (find : ℕ → Option Told) (told : Told) → (links ≡ 0 → ⊥) → own told ≡ None → option_and_then (reached_by own (links - 1) find) (option_and_then find told.link) ≡ reached_by own links find told
+  next_told links find told some is = sym (reached_step links find told some ∙ ap (λ o. option_or o (option_and_then (reached_by own (links - 1) find) (option_and_then find told.link))) is)
 
-found_told : (links : ℕ) (dies : List Die) (names : Names) (entry : Option Die) → ((next : Die) → name_by links (find_in names) (told_of next) ≡ name_in links dies next)
-    → option_and_then (name_by links (find_in names)) (option_map told_of entry) ≡ option_and_then (name_in links dies) entry
-found_told links dies names None same = refl
-found_told links dies names (Some next) same = same next
+module _ {A : Type 0} (own : Told → Option A) (own_in : Die → Option A) (tells : (die : Die) → own (told_of die) ≡ own_in die) (dies : List Die) (names : Names) (are : AreNames dies names) where
+  found_told : (links : ℕ) (entry : Option Die) → ((next : Die) → reached_by own links (find_in names) (told_of next) ≡ reached own_in links dies next)
+      → option_and_then (reached_by own links (find_in names)) (option_map told_of entry) ≡ option_and_then (reached own_in links dies) entry
+  found_told links None same = refl
+  found_told links (Some next) same = same next
 
-linked : (links : ℕ) (dies : List Die) (names : Names) (link : Option ℕ) → AreNames dies names → ((next : Die) → name_by links (find_in names) (told_of next) ≡ name_in links dies next)
-    → option_and_then (name_by links (find_in names)) (option_and_then (find_in names) link) ≡ option_and_then (name_in links dies) (option_and_then (entry_at dies) link)
-linked links dies names None are same = refl
-linked links dies names (Some offset) are same = ap (option_and_then (name_by links (find_in names))) (are offset) ∙ found_told links dies names (entry_at dies offset) same
+  linked : (links : ℕ) (link : Option ℕ) → ((next : Die) → reached_by own links (find_in names) (told_of next) ≡ reached own_in links dies next)
+      → option_and_then (reached_by own links (find_in names)) (option_and_then (find_in names) link) ≡ option_and_then (reached own_in links dies) (option_and_then (entry_at dies) link)
+  linked links None same = refl
+  linked links (Some offset) same = ap (option_and_then (reached_by own links (find_in names))) (are offset) ∙ found_told links (entry_at dies offset) same
 
--- by what it tells an entry has the name that it has
-pub named : (links : ℕ) (dies : List Die) (names : Names) (die : Die) → AreNames dies names → name_by links (find_in names) (told_of die) ≡ name_in links dies die
-unfolding name_by name_in
-named zero dies names die are = refl
-named (suc links) dies names die are = ap (option_or (own_name die)) (linked links dies names (link_of die) are (λ next. named links dies names next are))
+  -- by what entries tell one reaches what it reaches
+  pub told_reached : (links : ℕ) (die : Die) → reached_by own links (find_in names) (told_of die) ≡ reached own_in links dies die
+  unfolding reached_by reached
+  told_reached zero die = tells die
+  told_reached (suc links) die =
+      ap (λ o. option_or o (option_and_then (reached_by own links (find_in names)) (option_and_then (find_in names) (link_of die)))) (tells die)
+      ∙ ap (option_or (own_in die)) (linked links (link_of die) (λ next. told_reached links next))

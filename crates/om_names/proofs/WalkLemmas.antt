@@ -1,154 +1,199 @@
--- What entries tell, entry by entry.
-use Rattle.std.proofs.Common.{◌≡◌, ℕ, suc, ◌+◌, ◌<◌, ◌≤◌, Bool, true, false, cond, ◌&&◌, nat_eq, List, [], ◌∷◌, ◌++◌, length, get_or, take, drop, map, Option, Some, None, refl, sym, ap, subst, ◌∙◌, arith, append-nil, drop-cons, length-append, take-append-drop}
-use Rattle.std.specs.Prelude.{is_some, sum_by}
-use Rattle.std.specs.List.{flat_map}
-use Rattle.std.specs.Option.{option_or}
-use Rattle.std.proofs.lemmas.Bool.{eq-eqb, ne_eqb}
-use Rattle.std.proofs.lemmas.Grind.{flat_map-append}
-use Rattle.std.proofs.lemmas.List.{map-append, take_all, take_more}
-use Rattle.std.proofs.lemmas.List.Folds.{length-flat_map-take}
-use Rattle.std.proofs.lemmas.List.Sums.{sum_by-cons, sum_by_more}
-use Rattle.std.proofs.lemmas.Simd.{map-map}
-use Rattle.om_base.specs.Firsts.{first_of}
-use Rattle.om_base.specs.declared.span.Span.{Span}
-use Rattle.om_die.specs.Ranges.{range_list}
-use Rattle.om_die.specs.Units.{dies_of_units}
+-- The stack of a walk holds the entries above the next one, and fixed variables are found entry by entry.
+use Rattle.std.proofs.Common.{◌≡◌, ℕ, suc, ◌+◌, ◌-◌, ◌<◌, ◌≤◌, cond, ltb, List, [], ◌∷◌, ◌++◌, reverse, length, get_or, take, drop, Option, Some, None, refl, sym, ap, subst, ◌∙◌, inl, inr, arith, append_assoc, append-nil, drop-cons}
+use Rattle.std.proofs.lemmas.Bool.{cases_lt, le-ltb, lt-ltb}
+use Rattle.std.proofs.lemmas.List.{drop_all, reverse-append, take_more, take_all}
+use Rattle.std.proofs.lemmas.Option.{get_or_from_slice_get, slice_get-get_or}
+use Rattle.std.specs.Prelude.{filter_map, option_to_list, slice_get}
+use Rattle.std.specs.List.{list_any}
 use Rattle.om_die.specs.declared.die.Die.{Die}
-use Rattle.om_die.specs.declared.fault.DieFault.TheVariants as d
-use Rattle.om_die.specs.declared.unit.Unit.{Unit}
-use Rattle.om_names.specs.Ranges.{are_some, base_of, endless, listed, own_range, range_fault, ranges_by, ranges_of, ranges_offset}
-use Rattle.om_names.specs.Names.{name_from}
-use Rattle.om_names.specs.Walk.{claim_by, claims_by, claims_in_unit, count_by, count_in_unit, entry_in, fault_at, fault_in, has_ranges, list_offset, spans_by, unless_own}
-use Rattle.om_names.specs.declared.names.Names.{Names}
+use Rattle.om_names.specs.OpenEntries.{closed, is_last_inside}
+use Rattle.om_names.specs.Variables.{Placed, above, is_function, placed_behind}
+use Rattle.om_names.specs.declared.fixed.Fixed.{Fixed}
+use Rattle.om_names.specs.declared.open_entries.Open.{Open}
 
--- ---- the fault of an entry
+-- ---- the entries above
 
-endless_some : (offset : Option ℕ) (spans : List Span) → endless offset (Some spans) ≡ None
-endless_some None spans = refl
-endless_some (Some at) spans = refl
+again_by : (e : ℕ) (die : Die) (before : List Die) → ((d : ℕ) → d ≤ die.depth → above d before ≡ above d (above die.depth before))
+    → cond (ltb die.depth e) (die ∷ above die.depth before) (above e before) ≡ cond (ltb die.depth e) (die ∷ above die.depth (above die.depth before)) (above e (above die.depth before))
+again_by e die before below =
+    elim (cases_lt die.depth e) [
+      | inl less ↦ rw (lt-ltb _ _ less) (ap (λ ds. die ∷ ds) (below die.depth (omega arith)))
+      | inr more ↦ rw (le-ltb _ _ more) (below e more)
+    ]
 
-endless_at : (at : ℕ) (list : Option (List Span)) → endless (Some at) list ≡ cond (is_some list) None (Some (d.Short at))
-endless_at at None = refl
-endless_at at (Some spans) = refl
+-- of those above a depth, those above a lower one
+pub above_again : (e f : ℕ) (before : List Die) → e ≤ f → above e before ≡ above e (above f before)
+unfolding above
+above_again e f [] low = refl
+above_again e f (die ∷ before) low =
+    elim (cases_lt die.depth f) [
+      | inl less ↦ rw (lt-ltb _ _ less) (again_by e die before (λ d down. above_again d die.depth before down))
+      | inr more ↦ let also : e ≤ die.depth = omega arith in rw (le-ltb _ _ more, le-ltb _ _ also) (above_again e f before low)
+    ]
 
-endless_listed : (section : List ℕ) (base : ℕ) (offset : Option ℕ) → endless offset (listed section base offset) ≡ fault_at section base offset
-unfolding fault_at
-endless_listed section base None = refl
-endless_listed section base (Some at) = endless_at at (range_list base (drop at section))
+-- each entry is less deep than those in front of it
+pub Falls : List Die → Type 0
+Falls [] = Unit {0}
+Falls (die ∷ line) = (line ≡ above die.depth line) × Falls line
 
-fault_by : (section : List ℕ) (base : ℕ) (die : Die) (tagged : Bool) (own : Option Span)
-    → cond tagged (endless (ranges_offset die) (ranges_by section base die own)) None ≡ fault_at section base (cond tagged (unless_own own (ranges_offset die)) None)
-unfolding fault_at
-fault_by section base die false own = refl
-fault_by section base die true None = endless_listed section base (ranges_offset die)
-fault_by section base die true (Some span) = endless_some (ranges_offset die) (span ∷ [])
+-- ---- the stack
 
-pub fault_is : (section : List ℕ) (unit : Unit) (die : Die) → range_fault section (entry_in unit die) ≡ fault_at section (base_of unit) (list_offset die)
-unfolding list_offset ranges_of
-fault_is section unit die = fault_by section (base_of unit) die (has_ranges die) (own_range die)
+-- a stack tells, of each entry of a line, whether it is a subprogram or stands below one
+pub Tells : List Open → List Die → Type 0
+Tells [] [] = Unit {0}
+Tells [] (die ∷ line) = ⊥
+Tells (last ∷ stack) [] = ⊥
+Tells (last ∷ stack) (die ∷ line) = (last.depth ≡ die.depth) × (last.is_inside ≡ list_any is_function (die ∷ line)) × Tells stack line
 
-pub no_list : (section : List ℕ) (unit : Unit) (die : Die) → list_offset die ≡ None → None ≡ range_fault section (entry_in unit die)
-unfolding fault_at
-no_list section unit die is = sym (fault_is section unit die ∙ ap (fault_at section (base_of unit)) is)
+closed_tells : (depth : ℕ) (stack : List Open) (line : List Die) → Tells stack line → Falls line → Tells (closed depth stack) (above depth line) × Falls (above depth line)
+unfolding Tells Falls closed above
+closed_tells depth [] [] tells falls = (tt, tt)
+closed_tells depth [] (die ∷ line) tells falls = absurd tells
+closed_tells depth (last ∷ stack) [] tells falls = absurd tells
+closed_tells depth (last ∷ stack) (die ∷ line) tells falls =
+    elim (cases_lt die.depth depth) [
+      | inl less ↦ let also : last.depth < depth = omega arith in rw (lt-ltb _ _ less, lt-ltb _ _ also) (subst (λ ds. Tells (last ∷ stack) (die ∷ ds) × Falls (die ∷ ds)) falls.0 (tells, falls))
+      | inr more ↦ let also : depth ≤ last.depth = omega arith in rw (le-ltb _ _ more, le-ltb _ _ also) (closed_tells depth stack line tells.2 falls.1)
+    ]
 
-pub list_ended : (section : List ℕ) (unit : Unit) (die : Die) (at : ℕ) → list_offset die ≡ Some at → is_some (range_list (base_of unit) (drop at section)) ≡ true → None ≡ range_fault section (entry_in unit die)
-unfolding fault_at
-list_ended section unit die at is ended = sym (fault_is section unit die ∙ ap (fault_at section (base_of unit)) is ∙ ap (λ b. cond b None (Some (d.Short at))) ended)
+-- the entries that are open behind some entries, the last first
+pub opened : List Die → List Die
+opened [] = []
+opened (die ∷ before) = die ∷ above die.depth before
 
-pub list_endless : (section : List ℕ) (unit : Unit) (die : Die) (at : ℕ) → list_offset die ≡ Some at → is_some (range_list (base_of unit) (drop at section)) ≡ false
-    → Some (d.Short at) ≡ range_fault section (entry_in unit die)
-unfolding fault_at
-list_endless section unit die at is ended = sym (fault_is section unit die ∙ ap (fault_at section (base_of unit)) is ∙ ap (λ b. cond b None (Some (d.Short at))) ended)
+-- the stack is right behind some entries
+pub record IsStack (stack : List Open) (before : List Die) : Type 0 where
+  pub tells : Tells stack (opened before)
+  pub falls : Falls (opened before)
 
--- ---- the first fault
+pub no_stack : IsStack [] []
+unfolding Tells Falls opened
+no_stack = record { tells = tt; falls = tt }
 
-first_both : {A : Type 0} (ones others : List (Option A)) → first_of (ones ++ others) ≡ option_or (first_of ones) (first_of others)
-first_both [] others = refl
-first_both (None ∷ ones) others = first_both ones others
-first_both (Some x ∷ ones) others = refl
+-- above the next entry stand those that it leaves open
+above_opened : (depth : ℕ) (before : List Die) → above depth (opened before) ≡ above depth before
+unfolding opened above
+above_opened depth [] = refl
+above_opened depth (die ∷ before) =
+    elim (cases_lt die.depth depth) [
+      | inl less ↦ rw (lt-ltb _ _ less) (ap (λ ds. die ∷ ds) (sym (above_again die.depth die.depth before (omega arith))))
+      | inr more ↦ rw (le-ltb _ _ more) (sym (above_again depth die.depth before more))
+    ]
 
-module _ {X A : Type 0} (fault : X → Option A) where
-  -- one more without a fault
-  pub first_more : (xs : List X) (i : ℕ) (x d : X) → i < length xs → x ≡ get_or xs i d → first_of (map fault (take i xs)) ≡ None → fault x ≡ None → first_of (map fault (take (i + 1) xs)) ≡ None
-  first_more xs i x d within at none is =
-      ap (λ ys. first_of (map fault ys)) (take_more xs i d within ∙ ap (λ y. take i xs ++ y ∷ []) (sym at)) ∙ ap (λ fs. first_of fs) (map-append fault (take i xs) (x ∷ []))
-      ∙ first_both (map fault (take i xs)) (fault x ∷ []) ∙ ap (λ o. option_or o (first_of (fault x ∷ []))) none ∙ ap (λ o. option_or o None) is
+inside_told : (stack : List Open) (line : List Die) → Tells stack line → is_last_inside stack ≡ list_any is_function line
+unfolding Tells
+inside_told [] [] tells = refl
+inside_told [] (die ∷ line) tells = absurd tells
+inside_told (last ∷ stack) [] tells = absurd tells
+inside_told (last ∷ stack) (die ∷ line) tells = tells.1
 
-  -- the next has the first fault
-  pub first_found : (xs : List X) (i : ℕ) (x d : X) (told : A) → i < length xs → x ≡ get_or xs i d → first_of (map fault (take i xs)) ≡ None → fault x ≡ Some told → Some told ≡ first_of (map fault xs)
-  first_found xs i x d told within at none is =
-      let parts : xs ≡ take i xs ++ x ∷ drop (suc i) xs = sym (take-append-drop i xs) ∙ ap (λ ys. take i xs ++ ys) (drop-cons xs i d within ∙ ap (λ y. y ∷ drop (suc i) xs) (sym at)) in
-      sym (ap (λ ys. first_of (map fault ys)) parts ∙ ap (λ fs. first_of fs) (map-append fault (take i xs) (x ∷ drop (suc i) xs)) ∙ first_both (map fault (take i xs)) (map fault (x ∷ drop (suc i) xs))
-      ∙ ap (λ o. option_or o (first_of (map fault (x ∷ drop (suc i) xs)))) none ∙ ap (λ o. option_or o (first_of (map fault (drop (suc i) xs)))) is)
+module _ (stack : List Open) (before : List Die) (is : IsStack stack before) where
+  -- the last entry that is open tells whether the next one stands below a subprogram
+  pub inside_is : (depth : ℕ) → is_last_inside (closed depth stack) ≡ list_any is_function (above depth before)
+  inside_is depth =
+      inside_told (closed depth stack) (above depth (opened before)) (closed_tells depth stack (opened before) is.tells is.falls).0 ∙ ap (list_any is_function) (above_opened depth before)
 
-  pub first_none : (xs : List X) (i : ℕ) → length xs ≤ i → first_of (map fault (take i xs)) ≡ None → None ≡ first_of (map fault xs)
-  first_none xs i all none = sym (ap (λ ys. first_of (map fault ys)) (sym (take_all i xs all)) ∙ none)
+  pub stack_more : (die : Die) (new : Open) → new.depth ≡ die.depth → new.is_inside ≡ list_any is_function (die ∷ above die.depth before) → IsStack (new ∷ closed die.depth stack) (die ∷ before)
+  unfolding Tells Falls opened
+  stack_more die new depth_is inside =
+      let both = closed_tells die.depth stack (opened before) is.tells is.falls in
+      let kept : Tells (closed die.depth stack) (above die.depth before) = subst (Tells (closed die.depth stack)) (above_opened die.depth before) both.0 in
+      let fallen : Falls (above die.depth before) = subst Falls (above_opened die.depth before) both.1 in
+      record {
+        tells = (depth_is, inside, kept);
+        falls = (above_again die.depth die.depth before (omega arith), fallen);
+      }
 
--- the first fault of all entries, unit by unit
-pub first_by_units : (section : List ℕ) (units : List Unit) → first_of (map (fault_in section) units) ≡ first_of (map (range_fault section) (flat_map (λ unit. map (entry_in unit) unit.dies) units))
-first_by_units section [] = refl
-first_by_units section (unit ∷ units) =
-    ap (option_or (fault_in section unit)) (first_by_units section units)
-    ∙ ap (λ fs. option_or (first_of fs) (first_of (map (range_fault section) (flat_map (λ u. map (entry_in u) u.dies) units)))) (sym (map-map (range_fault section) (entry_in unit) unit.dies))
-    ∙ sym (ap (λ fs. first_of fs) (map-append (range_fault section) (map (entry_in unit) unit.dies) (flat_map (λ u. map (entry_in u) u.dies) units))
-    ∙ first_both (map (range_fault section) (map (entry_in unit) unit.dies)) (map (range_fault section) (flat_map (λ u. map (entry_in u) u.dies) units)))
+-- ---- the end of a stack
 
--- ---- functions
+parts_by : (stack : List Open) (last : Open) → Some last ≡ slice_get stack (length stack - 1) → 0 < length stack → stack ≡ take (length stack - 1) stack ++ last ∷ []
+parts_by stack last is some =
+    let next : length stack - 1 + 1 ≡ length stack = omega arith in
+    sym (take_all (length stack - 1 + 1) stack (omega arith)) ∙ take_more stack (length stack - 1) last (omega arith)
+    ∙ ap (λ x. take (length stack - 1) stack ++ x ∷ []) (get_or_from_slice_get stack (length stack - 1) last last (sym is))
 
-pub map_more : {X Y : Type 0} (f : X → Y) (xs : List X) (i : ℕ) (x d : X) → i < length xs → x ≡ get_or xs i d → map f (take (i + 1) xs) ≡ map f (take i xs) ++ f x ∷ []
-map_more f xs i x d within at = ap (map f) (take_more xs i d within ∙ ap (λ y. take i xs ++ y ∷ []) (sym at)) ∙ map-append f (take i xs) (x ∷ [])
+last_parts : (stack : List Open) (last : Open) → Some last ≡ slice_get stack (length stack - 1) → stack ≡ take (length stack - 1) stack ++ last ∷ []
+last_parts [] last is = absurd cc
+last_parts (one ∷ stack) last is = parts_by (one ∷ stack) last is (omega arith)
 
-pub flat_more : {X Y : Type 0} (f : X → List Y) (xs : List X) (i : ℕ) (x d : X) → i < length xs → x ≡ get_or xs i d → flat_map f (take (i + 1) xs) ≡ flat_map f (take i xs) ++ f x
-flat_more f xs i x d within at =
-    ap (flat_map f) (take_more xs i d within ∙ ap (λ y. take i xs ++ y ∷ []) (sym at)) ∙ flat_map-append f (take i xs) (x ∷ []) ∙ ap (λ ys. flat_map f (take i xs) ++ ys) (append-nil (f x))
+last_first : (stack : List Open) (last : Open) → Some last ≡ slice_get stack (length stack - 1) → reverse stack ≡ last ∷ reverse (take (length stack - 1) stack)
+last_first stack last is = ap reverse (last_parts stack last is) ∙ reverse-append (take (length stack - 1) stack) (last ∷ [])
 
-pub sum_more : {X : Type 0} (f : X → ℕ) (xs : List X) (i : ℕ) (x d : X) → i < length xs → x ≡ get_or xs i d → sum_by f (take (i + 1) xs) ≡ sum_by f (take i xs) + f x
-sum_more f xs i x d within at = sum_by_more f xs i d within ∙ ap (λ y. sum_by f (take i xs) + f y) (sym at)
+pub close_more : (depth : ℕ) (last : Open) (stack items : List Open) → stack ≡ items → Some last ≡ slice_get stack (length stack - 1) → depth ≤ last.depth
+    → closed depth (reverse (take (length items - 1) items)) ≡ closed depth (reverse items)
+unfolding closed
+close_more depth last stack items same is deep =
+    let first : reverse items ≡ last ∷ reverse (take (length items - 1) items) = last_first items last (subst (λ xs. Some last ≡ slice_get xs (length xs - 1)) same is) in
+    sym (ap (closed depth) first ∙ kept)
+  where
+    kept : closed depth (last ∷ reverse (take (length items - 1) items)) ≡ closed depth (reverse (take (length items - 1) items))
+    kept = rw (le-ltb _ _ deep) refl
 
-pub claims_other : (names : Names) (section : List ℕ) (base : ℕ) (die : Die) → (die.tag ≡ 46 → ⊥) → claims_by names section base die ≡ []
-unfolding claims_by
-claims_other names section base die other = ap (λ b. cond b (map (claim_by (name_from names die)) (spans_by section base die)) []) (ne_eqb die.tag 46 other)
+pub close_kept : (depth : ℕ) (last : Open) (stack items : List Open) → stack ≡ items → Some last ≡ slice_get stack (length stack - 1) → last.depth < depth → reverse items ≡ closed depth (reverse items)
+unfolding closed
+close_kept depth last stack items same is less =
+    let first : reverse items ≡ last ∷ reverse (take (length items - 1) items) = last_first items last (subst (λ xs. Some last ≡ slice_get xs (length xs - 1)) same is) in
+    first ∙ sym (ap (closed depth) first ∙ kept)
+  where
+    kept : closed depth (last ∷ reverse (take (length items - 1) items)) ≡ last ∷ reverse (take (length items - 1) items)
+    kept = rw (lt-ltb _ _ less) refl
 
-pub claims_function : (names : Names) (section : List ℕ) (base : ℕ) (die : Die) → die.tag ≡ 46 → claims_by names section base die ≡ map (claim_by (name_from names die)) (spans_by section base die)
-unfolding claims_by
-claims_function names section base die is = ap (λ b. cond b (map (claim_by (name_from names die)) (spans_by section base die)) []) (eq-eqb die.tag 46 is)
+none_here : (stack : List Open) → None ≡ slice_get stack (length stack - 1) → stack ≡ []
+none_here [] is = refl
+none_here (last ∷ stack) is = absurd (missing (slice_get-get_or (last ∷ stack) (length (last ∷ stack) - 1) last (omega arith)))
+  where
+    missing : slice_get (last ∷ stack) (length (last ∷ stack) - 1) ≡ Some (get_or (last ∷ stack) (length (last ∷ stack) - 1) last) → ⊥
+    missing there = let e : None ≡ Some (get_or (last ∷ stack) (length (last ∷ stack) - 1) last) = is ∙ there in cc
 
-pub count_other : (section : List ℕ) (base : ℕ) (die : Die) → (die.tag ≡ 46 → ⊥) → count_by section base die ≡ 0
-unfolding count_by
-count_other section base die other = ap (λ b. cond (b && are_some (spans_by section base die)) 1 0) (ne_eqb die.tag 46 other)
+pub close_none : (depth : ℕ) (stack items : List Open) → stack ≡ items → None ≡ slice_get stack (length stack - 1) → reverse items ≡ closed depth (reverse items)
+unfolding closed
+close_none depth stack items same is = let none : items ≡ [] = sym same ∙ none_here stack is in rw none refl
 
-pub count_function : (section : List ℕ) (base : ℕ) (die : Die) → die.tag ≡ 46 → count_by section base die ≡ cond (are_some (spans_by section base die)) 1 0
-unfolding count_by
-count_function section base die is = ap (λ b. cond (b && are_some (spans_by section base die)) 1 0) (eq-eqb die.tag 46 is)
+pub inside_some : (last : Open) (stack : List Open) → Some last ≡ slice_get stack (length stack - 1) → last.is_inside ≡ is_last_inside (reverse stack)
+inside_some last stack is = sym (ap is_last_inside (last_first stack last is))
 
-one_or_none : (b : Bool) → cond b 1 0 ≤ 1
-one_or_none true = omega arith
-one_or_none false = omega arith
+pub inside_none : (stack : List Open) → None ≡ slice_get stack (length stack - 1) → is_last_inside [] ≡ is_last_inside (reverse stack)
+inside_none stack is = ap (λ xs. is_last_inside (reverse xs)) (sym (none_here stack is))
 
-pub count_small : (section : List ℕ) (base : ℕ) (die : Die) → count_by section base die ≤ 1
-unfolding count_by
-count_small section base die = one_or_none (nat_eq die.tag 46 && are_some (spans_by section base die))
+-- ---- the walk
 
-counts_small : (section : List ℕ) (base : ℕ) (dies : List Die) → sum_by (count_by section base) dies ≤ length dies
-counts_small section base [] = omega arith
-counts_small section base (die ∷ dies) = omega (arith, sum_by-cons (count_by section base) die dies, count_small section base die, counts_small section base dies)
+-- the entries behind one more
+pub seen_more : (dies : List Die) (i : ℕ) (die d : Die) → i < length dies → die ≡ get_or dies i d → reverse (take (i + 1) dies) ≡ die ∷ reverse (take i dies)
+seen_more dies i die d within at = ap reverse (take_more dies i d within) ∙ reverse-append (take i dies) (get_or dies i d ∷ []) ∙ ap (λ x. x ∷ reverse (take i dies)) (sym at)
 
-pub unit_small : (section : List ℕ) (unit : Unit) → count_in_unit section unit ≤ length unit.dies
-unfolding count_in_unit
-unit_small section unit = counts_small section (base_of unit) unit.dies
+one_first : {X Y : Type 0} (h : X → Option Y) (x : X) (xs : List X) (o : Option Y) → h x ≡ o → filter_map h (x ∷ xs) ≡ option_to_list o ++ filter_map h xs
+one_first h x xs None is = rw is refl
+one_first h x xs (Some y) is = rw is refl
 
--- the claims and the number of functions of a unit, after all its entries
-pub unit_claims : (names : Names) (section : List ℕ) (unit : Unit) (base i : ℕ) (items : List Die) → base ≡ base_of unit → items ≡ unit.dies → length items ≤ i → flat_map (claims_by names section base) (take i items) ≡ claims_in_unit names section unit
-unfolding claims_in_unit
-unit_claims names section unit base i items base_is is all = ap (flat_map (claims_by names section base)) (take_all i items all ∙ is) ∙ ap (λ b. flat_map (claims_by names section b) unit.dies) base_is
+module _ (find : Placed → Option Fixed) where
+  -- what is found among some entries, and what is still to come among those behind them
+  pub ToCome : List Die → ℕ → List Fixed → List Fixed → Type 0
+  ToCome dies i found all = found ++ filter_map find (placed_behind (reverse (take i dies)) (drop i dies)) ≡ all
 
-pub unit_count : (section : List ℕ) (unit : Unit) (base i : ℕ) (items : List Die) → base ≡ base_of unit → items ≡ unit.dies → length items ≤ i → sum_by (count_by section base) (take i items) ≡ count_in_unit section unit
-unfolding count_in_unit
-unit_count section unit base i items base_is is all = ap (sum_by (count_by section base)) (take_all i items all ∙ is) ∙ ap (λ b. sum_by (count_by section b) unit.dies) base_is
+  pub come_first : (dies : List Die) (old : List Fixed) → ToCome dies 0 old (old ++ filter_map find (placed_behind [] dies))
+  unfolding ToCome
+  come_first dies old = refl
 
--- how many entries the units up to one have
-pub dies_more : (units : List Unit) (i : ℕ) (unit d : Unit) → i < length units → unit ≡ get_or units i d → length (dies_of_units (take (i + 1) units)) ≡ length (dies_of_units (take i units)) + length unit.dies
-dies_more units i unit d within at = ap length (flat_more (λ (u : Unit). u.dies) units i unit d within at) ∙ length-append (dies_of_units (take i units)) unit.dies
+  come_by : (before rest : List Die) (die : Die) (found new all : List Fixed) (one : Option Fixed) → find (record { die = die; line = above die.depth before }) ≡ one
+      → found ++ filter_map find (placed_behind before (die ∷ rest)) ≡ all → new ≡ found ++ option_to_list one → new ++ filter_map find (placed_behind (die ∷ before) rest) ≡ all
+  unfolding placed_behind
+  come_by before rest die found new all one one_is is new_is =
+      ap (λ xs. xs ++ filter_map find (placed_behind (die ∷ before) rest)) new_is
+      ∙ append_assoc found (option_to_list one) (filter_map find (placed_behind (die ∷ before) rest))
+      ∙ ap (λ xs. found ++ xs) (sym (one_first find (record { die = die; line = above die.depth before }) (placed_behind (die ∷ before) rest) one one_is)) ∙ is
 
-pub dies_within : (units : List Unit) (i : ℕ) (unit d : Unit) → i < length units → unit ≡ get_or units i d → length (dies_of_units (take i units)) + length unit.dies ≤ length (dies_of_units units)
-dies_within units i unit d within at = subst (λ (u : Unit). length (dies_of_units (take i units)) + length u.dies ≤ length (dies_of_units units)) (sym at) (length-flat_map-take (λ (u : Unit). u.dies) units i d within)
+  pub come_more : (dies : List Die) (i : ℕ) (die d : Die) (found new all : List Fixed) (one : Option Fixed) → i < length dies → die ≡ get_or dies i d → ToCome dies i found all
+      → find (record { die = die; line = above die.depth (reverse (take i dies)) }) ≡ one → new ≡ found ++ option_to_list one → ToCome dies (i + 1) new all
+  unfolding ToCome
+  come_more dies i die d found new all one within at is one_is new_is =
+      let next : suc i ≡ i + 1 = omega arith in
+      let rest : drop i dies ≡ die ∷ drop (suc i) dies = drop-cons dies i d within ∙ ap (λ x. x ∷ drop (suc i) dies) (sym at) in
+      let front : found ++ filter_map find (placed_behind (reverse (take i dies)) (die ∷ drop (suc i) dies)) ≡ all = subst (λ xs. found ++ filter_map find (placed_behind (reverse (take i dies)) xs) ≡ all) rest is in
+      subst (λ n. new ++ filter_map find (placed_behind (reverse (take (i + 1) dies)) (drop n dies)) ≡ all) next
+      (subst (λ xs. new ++ filter_map find (placed_behind xs (drop (suc i) dies)) ≡ all) (sym (seen_more dies i die d within at))
+      (come_by (reverse (take i dies)) (drop (suc i) dies) die found new all one one_is front new_is))
+
+  pub all_come : (dies : List Die) (i : ℕ) (found all : List Fixed) → length dies ≤ i → ToCome dies i found all → found ≡ all
+  unfolding ToCome placed_behind
+  all_come dies i found all past is =
+      sym (append-nil found) ∙ subst (λ xs. found ++ filter_map find (placed_behind (reverse (take i dies)) xs) ≡ all) (drop_all i dies past) is

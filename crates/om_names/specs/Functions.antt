@@ -1,13 +1,14 @@
 -- The function that an address lies in, and the names of functions: DWARF 4, section 3.3 "Subroutine and Entry Point Entries".
 use Rattle.std.specs.Prelude.{ℕ, suc, zero, Bool, ◌&&◌, nat_eq, List, length, filter, find, Option, Some, None}
 use Rattle.std.specs.Option.{option_and_then, option_or}
+use Rattle.om_die.specs.Constants.{DW_AT_abstract_origin, DW_AT_name, DW_AT_specification}
 use Rattle.om_die.specs.Units.{dies_of_units}
-use Rattle.om_die.specs.Value.{Value}
-use Rattle.om_die.specs.Value as v
+use Rattle.om_die.specs.AttributeValue.{Value}
+use Rattle.om_die.specs.AttributeValue as v
 use Rattle.om_die.specs.declared.die.Die.{Die}
 use Rattle.om_names.specs.Information.{Entry, Information, entries_of, is_subprogram, value_of}
 use Rattle.om_names.specs.Ranges.{ranges_in, hold, are_some}
-use Rattle.om_names.specs.declared.counts.Counts.{Counts}
+use Rattle.om_names.specs.declared.debug_counts.Counts.{Counts}
 
 -- ---- names
 
@@ -18,7 +19,7 @@ text_in value = None
 
 -- DW_AT_name
 abbrev pub own_name : Die → Option (List ℕ)
-own_name die = text_in (value_of 0x03 die)
+own_name die = text_in (value_of DW_AT_name die)
 
 -- a value that is the offset of an entry
 abbrev pub target_in : Option Value → Option ℕ
@@ -27,21 +28,28 @@ target_in value = None
 
 -- the entry that an entry is told by: its DW_AT_abstract_origin, else its DW_AT_specification
 abbrev pub link_of : Die → Option ℕ
-link_of die = option_or (target_in (value_of 0x31 die)) (target_in (value_of 0x47 die))
+link_of die = option_or (target_in (value_of DW_AT_abstract_origin die)) (target_in (value_of DW_AT_specification die))
 
 -- the entry at an offset
 abbrev pub entry_at : List Die → ℕ → Option Die
 entry_at dies offset = find (λ die. nat_eq die.at offset) dies
 
--- the name of an entry: its own, else that of the entry that it is told by, in so many links at most
-unfoldable pub name_in : ℕ → List Die → Die → Option (List ℕ)
-name_in zero dies die = own_name die
-name_in (suc links) dies die =
-    option_or (own_name die) (option_and_then (name_in links dies) (option_and_then (entry_at dies) (link_of die)))
+-- what an entry tells, by itself or through the one that it is told by, in so many links at most
+unfoldable pub reached : {A : Type 0} → (Die → Option A) → ℕ → List Die → Die → Option A
+reached own zero dies die = own die
+reached own (suc links) dies die =
+    option_or (own die) (option_and_then (reached own links dies) (option_and_then (entry_at dies) (link_of die)))
 
--- the name of an entry, in at most 4 links
+-- ... in at most 4 links
+abbrev pub reached_in_4 : {A : Type 0} → (Die → Option A) → List Die → Die → Option A
+reached_in_4 own dies die = reached own 4 dies die
+
+-- the name of an entry: its own, else that of the entry that it is told by
+abbrev pub name_among : List Die → Die → Option (List ℕ)
+name_among dies die = reached_in_4 own_name dies die
+
 abbrev pub name_of : Information → Die → Option (List ℕ)
-name_of info die = name_in 4 (dies_of_units info.units.list) die
+name_of info die = name_among (dies_of_units info.units.list) die
 
 -- ---- functions
 

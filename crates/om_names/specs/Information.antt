@@ -1,18 +1,25 @@
--- The debugging information of an executable: its units, and the section of range lists.
+-- The debugging information of an executable: its units, the section of range lists, and the line tables.
 use Rattle.std.specs.Prelude.{ℕ, Bool, nat_eq, List, [], flat_map, map, Option, codes, unwrap_or}
+use Rattle.om_die.specs.Constants.{DW_TAG_lexical_block, DW_TAG_subprogram}
 use Rattle.om_die.specs.Units.{Sections, attribute_of}
-use Rattle.om_die.specs.Value.{Value}
+use Rattle.om_die.specs.AttributeValue.{Value}
 use Rattle.om_die.specs.declared.die.Die.{Die}
 use Rattle.om_die.specs.declared.unit.Unit.{Unit}
 use Rattle.om_die.specs.declared.unit.Units.{Units}
 use Rattle.om_elf.specs.Sections.{bytes_of}
 use Rattle.om_elf.specs.declared.elf.Elf.{Elf}
+use Rattle.om_line.specs.declared.lines.Lines.{Lines}
 
 -- what is known of an executable
 pub record Information : Type 0 where
   pub units : Units
   -- the section .debug_ranges
   pub ranges : List ℕ
+  -- the tables of .debug_line that the units name, in their order
+  pub lines : List Lines
+
+abbrev pub info_of : Units → List ℕ → List Lines → Information
+info_of units ranges lines = record { units = units; ranges = ranges; lines = lines }
 
 -- the bytes of a section, none where there is no such section
 abbrev pub section : Elf → List ℕ → List ℕ
@@ -43,8 +50,8 @@ entries_of units = flat_map (λ unit. map (λ die. record { unit = unit; die = d
 
 -- an entry is a subprogram
 abbrev pub is_subprogram : Entry → Bool
-is_subprogram entry = nat_eq entry.die.tag 0x2e
+is_subprogram entry = nat_eq entry.die.tag DW_TAG_subprogram
 
 -- an entry is a lexical block
 abbrev pub is_block : Entry → Bool
-is_block entry = nat_eq entry.die.tag 0x0b
+is_block entry = nat_eq entry.die.tag DW_TAG_lexical_block

@@ -1,19 +1,37 @@
--- What is kept of debugging information.
-use Rattle.std.specs.Prelude.{◌≡◌, ℕ, List}
-use Rattle.om_die.specs.declared.unit.Units.{Units}
-use Rattle.om_names.specs.Functions.{counts_of, func_at}
-use Rattle.om_names.specs.Index.{Rise, name_in_owner, owner_at}
+-- What is kept of debugging information, and which information that is.
+use Rattle.std.specs.Prelude.{◌≡◌, ℕ, List, Option}
+use Rattle.std.specs.List.{slice_get}
+use Rattle.std.specs.Option.{option_and_then, option_flatten}
+use Rattle.om_claims.specs.Pieces.{IsIndexOf, owner_in}
+use Rattle.om_claims.specs.declared.claim.Claim.{Claim}
+use Rattle.om_claims.specs.declared.piece.Piece.{Piece}
+use Rattle.om_line.specs.Kept.{KeptLines, lines_told_by}
+use Rattle.om_names.specs.Facts.{Facts, facts_of}
 use Rattle.om_names.specs.Information.{Information}
-use Rattle.om_names.specs.declared.counts.Counts.{Counts}
-use Rattle.om_names.specs.declared.owner.Owner.TheVariants.{Nobody}
-use Rattle.om_names.specs.declared.pieces.Piece.{Piece}
+use Rattle.om_names.specs.KeptVariables.{told_in}
+use Rattle.om_names.specs.declared.debug_counts.Counts.{Counts}
+use Rattle.om_names.specs.declared.variables.Variables.{Variables}
 
--- the information of units and of the section of range lists
-abbrev pub info_of : Units → List ℕ → Information
-info_of units section = record { units = units; ranges = section }
+-- what is kept: the address space in pieces, each with the place of its function's name; the names; the line tables; the variables; and how much there is
+pub record Known : Type 0 where
+  pub pieces : List Piece
+  pub names : List (Option (List ℕ))
+  pub lines : KeptLines
+  pub variables : Variables
+  pub counts : Counts
 
--- pieces and counts tell what the information says
-pub record IsKnown (info : Information) (pieces : List Piece) (counts : Counts) : Type 0 where
-  pub rise : Rise 0 pieces
-  pub tells : (pc : ℕ) → name_in_owner (owner_at Nobody pieces pc) ≡ func_at info pc
-  pub counts_are : counts ≡ counts_of info
+-- the pieces are those of some claims
+abbrev pub AreOfClaims : List Piece → Type 0
+AreOfClaims pieces = (claims : List Claim) × IsIndexOf claims pieces
+
+-- the name at a place, if there are both
+abbrev pub name_at : List (Option (List ℕ)) → Option ℕ → Option (List ℕ)
+name_at names place = option_flatten (option_and_then (slice_get names) place)
+
+-- what it tells
+unfoldable pub told_by : Known → Facts
+told_by known = record { func_at = λ pc. name_at known.names (owner_in known.pieces pc); lines = lines_told_by known.lines; variables = told_in known.variables; counts = known.counts }
+
+-- what is kept is that of some information: it tells what the information does
+abbrev pub Knows : Information → Known → Type 0
+Knows info known = told_by known ≡ facts_of info

@@ -4,13 +4,15 @@ use Rattle.std.specs.List.{list_any}
 use Rattle.std.specs.Option.{option_map, option_and_then}
 use Rattle.om_base.specs.Firsts.{first_of}
 use Rattle.om_base.specs.declared.span.Span.{Span}
-use Rattle.om_die.specs.Ranges.{range_list}
-use Rattle.om_die.specs.Value.{Value}
-use Rattle.om_die.specs.Value as v
+use Rattle.om_die.specs.Constants.{DW_AT_high_pc, DW_AT_low_pc, DW_AT_ranges}
+use Rattle.om_die.specs.RangeLists.{range_list}
+use Rattle.om_die.specs.AttributeValue.{Value}
+use Rattle.om_die.specs.AttributeValue as v
 use Rattle.om_die.specs.declared.die.Die.{Die}
 use Rattle.om_die.specs.declared.fault.DieFault.{DieFault}
 use Rattle.om_die.specs.declared.fault.DieFault.TheVariants as d
 use Rattle.om_die.specs.declared.unit.Unit.{Unit}
+use Rattle.om_die.specs.declared.unit.Units.{Units}
 use Rattle.om_names.specs.Information.{Entry, Information, entries_of, is_block, is_subprogram, value_of}
 
 -- ---- attributes
@@ -22,7 +24,7 @@ address_in value = None
 
 -- DW_AT_low_pc
 abbrev pub low_pc : Die → Option ℕ
-low_pc die = address_in (value_of 0x11 die)
+low_pc die = address_in (value_of DW_AT_low_pc die)
 
 -- the end of a range that begins at an address: an address itself, or how far it is from the beginning
 abbrev pub end_in : ℕ → Option Value → Option ℕ
@@ -33,7 +35,7 @@ end_in low value = None
 
 -- DW_AT_high_pc, of an entry whose code begins at an address
 abbrev pub high_pc : ℕ → Die → Option ℕ
-high_pc low die = end_in low (value_of 0x12 die)
+high_pc low die = end_in low (value_of DW_AT_high_pc die)
 
 -- an offset of another section
 abbrev pub offset_in : Option Value → Option ℕ
@@ -43,7 +45,7 @@ offset_in value = None
 
 -- DW_AT_ranges
 abbrev pub ranges_offset : Die → Option ℕ
-ranges_offset die = offset_in (value_of 0x55 die)
+ranges_offset die = offset_in (value_of DW_AT_ranges die)
 
 -- ---- ranges
 
@@ -97,6 +99,6 @@ abbrev pub range_fault : List ℕ → Entry → Option DieFault
 range_fault section entry =
     if is_subprogram entry || is_block entry then endless (ranges_offset entry.die) (ranges_of section entry) else None
 
--- the first such fault
-unfoldable pub first_range_fault : Information → Option DieFault
-first_range_fault info = first_of (map (range_fault info.ranges) (entries_of info.units))
+-- the first such fault of the entries of some units
+unfoldable pub first_range_fault : List ℕ → Units → Option DieFault
+first_range_fault section units = first_of (map (range_fault section) (entries_of units))

@@ -1,66 +1,113 @@
 //! The debugging information of an executable.
 
-ghost use Rattle.std.specs.Prelude.{◌≡◌, ◌⊎◌, ◌<◌, ◌^◌, length, All, None, Some, Ok, Err, IfOk, IfErr};
-ghost use Rattle.om_die.specs.Refusals.{IsRefusal};
-ghost use Rattle.om_die.specs.Units.{AreUnits, dies_of_units};
-ghost use Rattle.om_die.specs.declared.fault.DieFault.{DieFault};
-ghost use Rattle.om_die.specs.declared.unit.Units.{Units};
+ghost use Rattle.std.specs.Prelude.{◌≡◌, ◌⊎◌, ◌<◌, ◌^◌, length, List, All, Ok, Err, IfOk, IfErr};
+ghost use Rattle.om_die.specs.Units.{dies_of_units};
 ghost use Rattle.om_elf.specs.Piece.{IsShort};
-ghost use Rattle.om_names.specs.Functions.{counts_of, func_at};
 ghost use Rattle.om_names.specs.Information as spec;
-ghost use Rattle.om_names.specs.Information.{Information, unit_sections};
-ghost use Rattle.om_names.specs.Known.{info_of};
-ghost use Rattle.om_names.specs.Ranges.{first_range_fault};
-ghost use Rattle.om_names.specs.Reading.{HasUnitFault, IsLawful, IsRefused};
+ghost use Rattle.om_line.specs.Kept.{lines_told_by};
+ghost use Rattle.om_line.specs.Tables.{line_facts};
+ghost use Rattle.om_line.specs.declared.lines.Lines.{Lines};
+ghost use Rattle.om_names.specs.Information.{Information, info_of, unit_sections};
+ghost use Rattle.om_names.specs.Known.{Knows, told_by};
+ghost use Rattle.om_names.specs.KeptVariables.{told_in};
+ghost use Rattle.om_names.specs.LineTables.{line_tables};
+ghost use Rattle.om_names.specs.Names.{AreNames};
+ghost use Rattle.om_names.specs.Stages.{IsLawful, IsRefused, lines_stage, ranges_stage, units_stage};
+ghost use Rattle.om_names.specs.Variables.{variable_facts};
 
-use crate::counts::Counts;
+use crate::debug_counts::Counts;
 use crate::fault::NamesFault;
-use crate::functions::read_functions;
+use crate::functions::{again, read_functions};
+use crate::held::Held;
 use crate::judging::first_fault;
+use crate::line_tables::line_offsets;
 use crate::list_ends::list_ends;
-use crate::names::read_names;
-use crate::pieces::{Piece, index_of, owner_at};
-use om_base::{Items, Name};
+use crate::names::{Names, read_names};
+use crate::variables::{Variables, read_variables};
+use om_base::{Items, Name, NoMemory};
+use om_claims::{ClaimIndex, index_of};
 use om_die::{DieFault, Units, read_units};
 use om_elf::Elf;
+use om_eval::Catalog;
+use om_line::{LineFault, LineRow, LineTables, read_tables};
 use std::alloc::Global;
 use std::marker::Model;
 
-/// What is known of an executable, ready to be asked at any address.
+/// What is known of an executable, ready to be asked at any address. The entries that it was read from
+/// aren't kept.
 #[derive(Debug, Drop)]
 pub struct Debug<'a> {
-    units: Units<'a>,
-    ranges: &'a [u8],
-    /// The address space by the functions that have it.
-    pieces: Items<Piece<'a>>,
+    /// The ranges of functions, by their places.
+    index: ClaimIndex,
+    /// For each range the name of its function, if it has one.
+    names: Items<Option<Name<'a>>>,
+    lines: LineTables<'a>,
+    variables: Variables<'a>,
     counts: Counts,
 }
 
-// Clauses see the units and the range lists.
+// Clauses see what is kept; `told_by` is what it tells, and `Knows` of which information it is.
 impl<'a> Model for Debug<'a> {
-    ghost use Rattle.om_names.specs.Information.{Information};
+    ghost use Rattle.om_names.specs.Known.{Known};
 
-    ghost Value = { Information };
+    ghost Value = { Known };
 
-    ghost view = { λ it. record { units = it.units; ranges = it.ranges.now } };
+    ghost view = { λ it. record { pieces = it.index; names = it.names; lines = it.lines; variables = it.variables; counts = it.counts } };
 
-    ghost use Rattle.om_names.specs.Known.{IsKnown};
+    ghost use Rattle.om_names.specs.Known.{AreOfClaims};
 
-    ghost invariant = { λ it. IsKnown (record { units = it.units; ranges = it.ranges.now }) it.pieces it.counts };
+    ghost invariant = { λ it. AreOfClaims it.index };
 }
 
 impl<'a> Debug<'a> {
     /// The name of the function that the address lies in: that of the first subprogram, in the order of
     /// units and entries, with a range that holds it. None where there is none, or it has no name.
+    #[tactic(auto, unfolding(crate::specs::Known::told_by))]
     pub fn func_at(&self, pc: u32) -> Option<Name<'a>>
-        ensures { result ≡ func_at self.now pc }
+        ensures { result ≡ (told_by self.now).func_at pc }
     {
-        owner_at(self.pieces.as_slice(), pc).name()
+        let place = self.index.owner_at(u64::from(pc))?;
+        again(self.names.as_slice().get(place as usize)?)
+    }
+
+    /// The row of the line tables that the address belongs to, that of the first table that has one. Its
+    /// line may be 0.
+    #[tactic(auto, unfolding(crate::specs::Known::told_by))]
+    pub fn line_at(&self, pc: u32) -> Option<LineRow>
+        ensures { result ≡ (told_by self.now).lines.line_at pc }
+    {
+        self.lines.line_at(pc)
+    }
+
+    /// The name of the file of that row. None also where its line is 0, or its number names no file.
+    #[tactic(auto, unfolding(crate::specs::Known::told_by))]
+    pub fn file_at(&self, pc: u32) -> Option<Name<'a>>
+        ensures { result ≡ (told_by self.now).lines.file_at pc }
+    {
+        self.lines.file_at(pc)
+    }
+
+    /// The names of the variables outside functions, with what is known of each.
+    #[tactic(auto, unfolding(crate::specs::Known::told_by))]
+    pub fn catalog(&self) -> &Catalog<'a>
+        ensures { result.now ≡ (told_by self.now).variables.catalog }
+    {
+        &self.variables.catalog
+    }
+
+    /// Where the variable is that the name at a place of the catalog means. None where the name is ambiguous,
+    /// or the variable's type isn't scalar.
+    #[tactic(auto, unfolding(crate::specs::Known::told_by))]
+    pub fn variable(&self, place: u32) -> Option<Held>
+        ensures { result ≡ (told_by self.now).variables.held place }
+    {
+        self.variables.held(place as usize)
     }
 
     /// How much there is.
+    #[tactic(auto, unfolding(crate::specs::Known::told_by))]
     pub fn counts(&self) -> Counts
-        ensures { result ≡ counts_of self.now }
+        ensures { result ≡ (told_by self.now).counts }
     {
         self.counts
     }
@@ -92,11 +139,9 @@ fn unit_fault(fault: DieFault) -> NamesFault
 /// The units of an executable.
 fn read_info<'a>(alloc: Global, elf: &Elf<'a>) -> Result<Units<'a>, NamesFault>
     requires { All IsShort elf.now.sections }
-    ensures units { IfOk result (λ units. AreUnits (unit_sections elf.now) units) }
+    ensures units { IfOk result (λ units. units_stage elf.now (Ok units)) }
     ensures short { length (unit_sections elf.now).info < 2 ^ 32 }
-    ensures fault { IfErr result (λ fault. (fault ≡ NamesFault.NoMemory) ⊎ HasUnitFault elf.now fault) }
-    ensures reads { (units : Units) → AreUnits (unit_sections elf.now) units → (result ≡ Ok units) ⊎ (result ≡ Err NamesFault.NoMemory) }
-    ensures refuses { (told : DieFault) → IsRefusal (unit_sections elf.now) told → (result ≡ Err (NamesFault.Info told)) ⊎ (result ≡ Err NamesFault.NoMemory) }
+    ensures fault { IfErr result (λ fault. (fault ≡ NamesFault.NoMemory) ⊎ units_stage elf.now (Err fault)) }
 {
     let info = section(elf, b".debug_info");
     let abbreviations = section(elf, b".debug_abbrev");
@@ -107,48 +152,106 @@ fn read_info<'a>(alloc: Global, elf: &Elf<'a>) -> Result<Units<'a>, NamesFault>
     }
 }
 
-/// What units and range lists tell.
-fn know<'a>(alloc: Global, units: Units<'a>, ranges: &'a [u8]) -> Result<Debug<'a>, NamesFault>
-    requires units { length units.list < 2 ^ 32 }
-    requires dies { length (dies_of_units units.list) < 2 ^ 32 }
-    ensures known { IfOk result (λ debug. debug ≡ info_of units.entry ranges.now) }
-    ensures ended { IfOk result (λ debug. first_range_fault (info_of units.entry ranges.now) ≡ None) }
-    ensures fault { IfErr result (λ fault. (fault ≡ NamesFault.NoMemory)
-        ⊎ ((told : DieFault) × (fault ≡ NamesFault.Ranges told) × (first_range_fault (info_of units.entry ranges.now) ≡ Some told))) }
+/// The section of range lists, judged over the units.
+fn read_lists<'a>(alloc: Global, elf: &Elf<'a>, units: &Units<'a>) -> Result<&'a [u8], NamesFault>
+    requires { All IsShort elf.now.sections }
+    ensures lists { IfOk result (λ ranges. ranges_stage elf.now units.now (Ok ranges.now)) }
+    ensures fault { IfErr result (λ fault. (fault ≡ NamesFault.NoMemory) ⊎ ranges_stage elf.now units.now (Err fault)) }
 {
+    let ranges = section(elf, b".debug_ranges");
     let ends = list_ends(alloc, ranges)?;
-    if let Some(fault) = first_fault(&ends, &units) {
-        return Err(NamesFault::Ranges(fault));
+    match first_fault(&ends, units) {
+        Some(fault) => Err(NamesFault::Ranges(fault)),
+        None => Ok(ranges),
     }
-    let names = read_names(alloc, &units)?;
-    let functions = read_functions(alloc, &names, ranges, &units)?;
-    let pieces = index_of(alloc, functions.claims.as_slice())?;
+}
+
+/// Why line tables are refused.
+fn line_fault(fault: LineFault) -> NamesFault
+    ensures none { fault ≡ LineFault.NoMemory → result ≡ NamesFault.NoMemory }
+    ensures told { (fault ≡ LineFault.NoMemory → ⊥) → result ≡ NamesFault.Lines fault }
+{
+    match fault {
+        LineFault::NoMemory => NamesFault::NoMemory,
+        _ => NamesFault::Lines(fault),
+    }
+}
+
+/// The line tables that the units name.
+fn read_lines<'a>(
+    alloc: Global,
+    elf: &Elf<'a>,
+    units: &Units<'a>,
+) -> Result<LineTables<'a>, NamesFault>
+    requires { All IsShort elf.now.sections }
+    ensures stage { IfOk result (λ _. lines_stage elf.now units.now (Ok (line_tables elf.now units.now))) }
+    ensures kept { IfOk result (λ kept. lines_told_by kept ≡ line_facts (line_tables elf.now units.now)) }
+    ensures fault { IfErr result (λ fault. (fault ≡ NamesFault.NoMemory) ⊎ lines_stage elf.now units.now (Err fault)) }
+{
+    let offsets = line_offsets(alloc, units.list.as_slice())?;
+    match read_tables(alloc, section(elf, b".debug_line"), offsets.as_slice()) {
+        Ok(tables) => Ok(tables),
+        Err(fault) => Err(line_fault(fault)),
+    }
+}
+
+/// What is kept of units, range lists, line tables and variables.
+fn know<'a>(
+    alloc: Global,
+    names: &Names<'a>,
+    units: &Units<'a>,
+    ranges: &[u8],
+    lines: LineTables<'a>,
+    variables: Variables<'a>,
+) -> Result<Debug<'a>, NoMemory>
+    requires names { AreNames (dies_of_units units.now.list) names.now }
+    requires units { length units.now.list < 2 ^ 32 }
+    requires dies { length (dies_of_units units.now.list) < 2 ^ 32 }
+    ensures { (tables : List Lines) → lines_told_by lines.entry ≡ line_facts tables → told_in variables.entry ≡ variable_facts units.now → IfOk result (λ debug. Knows (info_of units.now ranges.now tables) debug) }
+{
+    let functions = read_functions(alloc, names, ranges, units)?;
+    let index = index_of(alloc, functions.claims.as_slice())?;
     let counts = Counts {
         units: units.list.len() as u32,
         skipped: units.skipped,
         functions: functions.count,
     };
     Ok(Debug {
-        units,
-        ranges,
-        pieces: Items::from_vec(pieces),
+        index,
+        names: functions.names,
+        lines,
+        variables,
         counts,
     })
 }
 
+/// The stages in their order, and then what is kept.
+fn read<'a>(alloc: Global, elf: &Elf<'a>) -> Result<Debug<'a>, NamesFault>
+    requires { All IsShort elf.now.sections }
+    ensures debug { IfOk result (λ debug. (info : Information) × IsLawful elf.now info × Knows info debug) }
+    ensures fault { IfErr result (λ fault. (fault ≡ NamesFault.NoMemory) ⊎ IsRefused elf.now fault) }
+{
+    let units = read_info(alloc, elf)?;
+    let ranges = read_lists(alloc, elf, &units)?;
+    let lines = read_lines(alloc, elf, &units)?;
+    let names = read_names(alloc, &units)?;
+    let variables = read_variables(alloc, &names, &units)?;
+    let debug = know(alloc, &names, &units, ranges, lines, variables)?;
+    Ok(debug)
+}
+
 /// Reads the debugging information of an executable. A section that it hasn't counts as empty.
 ///
-/// Takes time and memory in the size of the sections, but for sorting and searching.
+/// Takes time and memory in the size of the sections, but for sorting and searching. Where subprograms
+/// have 2^32 ranges or more, there is no room for them.
 pub fn read_debug<'a>(alloc: Global, elf: &Elf<'a>) -> Result<Debug<'a>, NamesFault>
     requires { All IsShort elf.now.sections }
-    ensures debug { IfOk result (λ debug. IsLawful elf.now debug) }
+    ensures debug { IfOk result (λ debug. (info : Information) × IsLawful elf.now info × Knows info debug) }
     ensures fault { IfErr result (λ fault. (fault ≡ NamesFault.NoMemory) ⊎ IsRefused elf.now fault) }
 
     // Nothing else is answered, but that no memory was left.
-    ensures reads { (info : Information) → IsLawful elf.now info → (result ≡ Ok info) ⊎ (result ≡ Err NamesFault.NoMemory) }
+    ensures reads { (info : Information) → IsLawful elf.now info → IfOk result (Knows info) × IfErr result (λ fault. fault ≡ NamesFault.NoMemory) }
     ensures refuses { (fault : NamesFault) → IsRefused elf.now fault → (result ≡ Err fault) ⊎ (result ≡ Err NamesFault.NoMemory) }
 {
-    let units = read_info(alloc, elf)?;
-    let ranges = section(elf, b".debug_ranges");
-    know(alloc, units, ranges)
+    read(alloc, elf)
 }

@@ -5,6 +5,7 @@ ghost use Rattle.om_names.specs.declared.fault.NamesFault.TheVariants as fault;
 
 use om_base::NoMemory;
 use om_die::DieFault;
+use om_line::LineFault;
 
 /// Why an executable's debugging information can't be read, in the order in which it is judged.
 #[derive(Clone, Copy, Debug, PartialEq, Eq)]
@@ -15,6 +16,14 @@ pub enum NamesFault {
     Info(DieFault),
     /// A range list of `.debug_ranges`, that of a subprogram or of a lexical block, has no end.
     Ranges(DieFault),
+    /// A table of `.debug_line`, one that a unit names, isn't what it should be.
+    Lines(LineFault),
+    /// The type of a variable or a parameter of `.debug_info` takes too many typedefs, or leads back to
+    /// itself.
+    TypeLoop {
+        /// Where the entry of the variable or the parameter begins.
+        at: u32,
+    },
 }
 
 impl From<NoMemory> for NamesFault {

@@ -1,24 +1,25 @@
 //! The functions that entries tell of: DWARF 4, section 3.3.
 
-ghost use Rattle.std.specs.Prelude.{◌≡◌, ◌+◌, ◌≤◌, ◌<◌, ◌^◌, ◌++◌, if◌then◌else◌, length, map, sum_by, IfOk, OnOk};
+ghost use Rattle.std.specs.Prelude.{◌≡◌, ◌+◌, ◌<◌, ◌^◌, ◌++◌, if◌then◌else◌, length, map, sum_by, IfOk, OnOk};
 ghost use Rattle.std.specs.List.{flat_map};
 ghost use Rattle.om_die.specs.Units.{dies_of_units};
 ghost use Rattle.om_names.specs.Ranges as ranges;
-ghost use Rattle.om_names.specs.Walk.{claim_by, claims_by, claims_in_unit, count_by, count_in_unit};
+ghost use Rattle.om_names.specs.EntryByEntry.{claims_of, count_by, count_in_unit, named_by, named_in_unit, named_spans, names_of};
 
-use crate::claim::Claim;
 use crate::names::Names;
 use crate::ranges::{base_of, ranges_of};
-use crate::tags::DW_TAG_SUBPROGRAM;
 use om_base::{Items, Name, NoMemory, Span};
-use om_die::{Die, Unit, Units};
+use om_claims::Claim;
+use om_die::{DW_TAG_SUBPROGRAM, Die, Unit, Units};
 use std::alloc::Global;
 
 /// Functions with their addresses.
 #[derive(Debug, Drop)]
 pub struct Functions<'a> {
-    /// Their ranges, in the order of units and entries.
-    pub claims: Items<Claim<'a>>,
+    /// A claim to each of their ranges, in the order of units and entries. All are as deep.
+    pub claims: Items<Claim>,
+    /// For each claim the name of its function, if it has one.
+    pub names: Items<Option<Name<'a>>>,
     /// How many have a range that isn't empty.
     pub count: u32,
 }
@@ -37,25 +38,29 @@ fn count_of(spans: &[Span]) -> u32
     if are_some(spans) { 1 } else { 0 }
 }
 
-/// A function's claim to a range.
-fn claim_by<'a>(name: &Option<Name<'a>>, span: Span) -> Claim<'a>
-    ensures { result ≡ claim_by name.now span }
+/// The same name, if there is one.
+pub fn again<'a>(name: &Option<Name<'a>>) -> Option<Name<'a>>
+    ensures { result ≡ name.now }
 {
-    let name = match name {
+    match name {
         Some(name) => Some(Name::of(name.bytes())),
         None => None,
-    };
-    Claim { span, name }
+    }
 }
 
 impl<'a> Functions<'a> {
     /// Adds the ranges of a function.
     fn claim(&mut self, spans: &[Span], name: &Option<Name<'a>>) -> Result<(), NoMemory>
-        ensures claims { OnOk result (self.new.claims ≡ self.old.claims ++ map (claim_by name.now) spans.now) }
+        ensures claims { OnOk result (self.new.claims ≡ self.old.claims ++ claims_of (map (named_by name.now) spans.now)) }
+        ensures names { OnOk result (self.new.names ≡ self.old.names ++ names_of (map (named_by name.now) spans.now)) }
         ensures count { OnOk result (self.new.count ≡ self.old.count) }
     {
         for span in spans {
-            self.claims.push(claim_by(name, *span))?;
+            self.claims.push(Claim {
+                span: *span,
+                depth: 0,
+            })?;
+            self.names.push(again(name))?;
         }
         Ok(())
     }
@@ -70,7 +75,8 @@ impl<'a> Functions<'a> {
         die: &Die<'a>,
     ) -> Result<(), NoMemory>
         requires { self.old.count + 1 < 2 ^ 32 }
-        ensures claims { OnOk result (self.new.claims ≡ self.old.claims ++ claims_by names.now section.now base die.now) }
+        ensures claims { OnOk result (self.new.claims ≡ self.old.claims ++ claims_of (named_spans names.now section.now base die.now)) }
+        ensures names { OnOk result (self.new.names ≡ self.old.names ++ names_of (named_spans names.now section.now base die.now)) }
         ensures count { OnOk result (self.new.count ≡ self.old.count + count_by section.now base die.now) }
     {
         if die.tag != DW_TAG_SUBPROGRAM {
@@ -91,7 +97,8 @@ impl<'a> Functions<'a> {
         unit: &Unit<'a>,
     ) -> Result<(), NoMemory>
         requires { self.old.count + length unit.now.dies < 2 ^ 32 }
-        ensures claims { OnOk result (self.new.claims ≡ self.old.claims ++ claims_in_unit names.now section.now unit.now) }
+        ensures claims { OnOk result (self.new.claims ≡ self.old.claims ++ claims_of (named_in_unit names.now section.now unit.now)) }
+        ensures names { OnOk result (self.new.names ≡ self.old.names ++ names_of (named_in_unit names.now section.now unit.now)) }
         ensures count { OnOk result (self.new.count ≡ self.old.count + count_in_unit section.now unit.now) }
     {
         let base = base_of(unit);
@@ -110,11 +117,13 @@ pub fn read_functions<'a>(
     units: &Units<'a>,
 ) -> Result<Functions<'a>, NoMemory>
     requires { length (dies_of_units units.now.list) < 2 ^ 32 }
-    ensures claims { IfOk result (λ functions. functions.claims ≡ flat_map (claims_in_unit names.now section.now) units.now.list) }
+    ensures claims { IfOk result (λ functions. functions.claims ≡ claims_of (flat_map (named_in_unit names.now section.now) units.now.list)) }
+    ensures names { IfOk result (λ functions. functions.names ≡ names_of (flat_map (named_in_unit names.now section.now) units.now.list)) }
     ensures count { IfOk result (λ functions. functions.count ≡ sum_by (count_in_unit section.now) units.now.list) }
 {
     let mut functions = Functions {
         claims: Items::new(alloc),
+        names: Items::new(alloc),
         count: 0,
     };
     for unit in units.list.as_slice() {

@@ -3,15 +3,14 @@
 ghost use Rattle.std.specs.Prelude.{◌≡◌, ℕ, List, map};
 ghost use Rattle.om_base.specs.Firsts.{first_of};
 ghost use Rattle.om_die.specs.declared.unit.Unit.{Unit};
-ghost use Rattle.om_names.specs.Ends.{AreEnds};
+ghost use Rattle.om_names.specs.ListEnds.{AreEnds};
 ghost use Rattle.om_names.specs.Information.{entries_of};
 ghost use Rattle.om_names.specs.Ranges.{range_fault};
-ghost use Rattle.om_names.specs.Walk.{entry_in, fault_in, has_ranges, list_offset};
+ghost use Rattle.om_names.specs.EntryByEntry.{entry_in, fault_in, has_ranges, list_offset};
 
 use crate::list_ends::ListEnds;
 use crate::ranges::{own_range, ranges_offset};
-use crate::tags::{DW_TAG_LEXICAL_BLOCK, DW_TAG_SUBPROGRAM};
-use om_die::{Die, DieFault, Unit, Units};
+use om_die::{DW_TAG_LEXICAL_BLOCK, DW_TAG_SUBPROGRAM, Die, DieFault, Unit, Units};
 
 /// Whether the ranges of an entry are read.
 fn has_ranges(die: &Die) -> bool
@@ -21,7 +20,7 @@ fn has_ranges(die: &Die) -> bool
 }
 
 /// Where the list begins that an entry's ranges are read from, if it has one.
-#[tactic(auto, unfolding(crate::specs::Walk::list_offset))]
+#[tactic(auto, unfolding(crate::specs::EntryByEntry::list_offset))]
 fn list_offset(die: &Die) -> Option<u32>
     ensures { result ≡ list_offset die.now }
 {

@@ -1,13 +1,17 @@
 //! Laws of debugging information. They have no code of their own.
 
-ghost use Rattle.std.specs.Prelude.{◌≡◌, ◌⊎◌, ◌++◌, ◌∷◌, ℕ, true, false, List, None, All};
+ghost use Rattle.std.specs.Prelude.{◌≡◌, ◌⊎◌, ◌++◌, ◌∷◌, ℕ, true, false, List, None, Some, All};
+ghost use Rattle.std.specs.List.{list_any};
+ghost use Rattle.om_die.specs.declared.die.Die.{Die};
 ghost use Rattle.om_elf.specs.declared.elf.Elf.{Elf};
 ghost use Rattle.om_names.specs.Functions.{func_at, holds, name_of};
 ghost use Rattle.om_names.specs.Information.{Entry, Information, entries_of};
-ghost use Rattle.om_names.specs.Reading.{IsLawful, IsRefused};
+ghost use Rattle.om_names.specs.Stages.{IsLawful, IsRefused};
+ghost use Rattle.om_names.specs.Types.{scalar_of};
+ghost use Rattle.om_names.specs.Variables.{Placed, differ, fixed_of, interval_of, is_ambiguous, is_declaration, is_function, numbers_of};
 ghost use Rattle.om_names.specs.declared.fault.NamesFault.{NamesFault};
-
-use om_die::{one_reading, units_or_refusal};
+ghost use Rattle.om_names.specs.declared.fixed.Fixed.{Fixed};
+ghost use Rattle.om_names.specs.declared.kind.Kind.{Kind};
 
 /// An address that no subprogram holds is in no function. Of several subprograms that hold it the first
 /// counts, whether it has a name or not.
@@ -25,7 +29,23 @@ pub fn one_debug()
     ensures refusal { (elf : Elf) (f g : NamesFault) → IsRefused elf f → IsRefused elf g → f ≡ g }
     ensures apart { (elf : Elf) (info : Information) (fault : NamesFault) → IsLawful elf info → IsRefused elf fault → ⊥ }
     ensures total { (elf : Elf) → ((info : Information) × IsLawful elf info) ⊎ ((fault : NamesFault) × IsRefused elf fault) }
-{
-    one_reading();
-    units_or_refusal();
-}
+{}
+
+/// A mere declaration is no variable, and what stands below a subprogram is none outside functions.
+pub fn no_variable()
+    ensures declaration { (dies : List Die) (placed : Placed) → is_declaration placed.die ≡ true → fixed_of dies placed ≡ None }
+    ensures inside { (dies : List Die) (placed : Placed) → list_any is_function placed.line ≡ true → fixed_of dies placed ≡ None }
+{}
+
+/// A name is ambiguous where two of its variables differ, wherever they stand among the others, and
+/// nowhere else. Two of one size and another sign differ.
+pub fn ambiguous_names()
+    ensures two { (before between after : List Fixed) (a b : Fixed) → differ a b ≡ true → is_ambiguous (before ++ a ∷ between ++ b ∷ after) ≡ true }
+    ensures alike { (first : Fixed) (others : List Fixed) → All (λ it. differ first it ≡ false) others → is_ambiguous (first ∷ others) ≡ false }
+    ensures sign { (a b : Fixed) (size : ℕ) → a.kind ≡ Some (record { size = size; signed = true }) → b.kind ≡ Some (record { size = size; signed = false }) → differ a b ≡ true }
+{}
+
+/// Each scalar type has its numbers.
+pub fn scalar_numbers()
+    ensures { (die : Die) (kind : Kind) → scalar_of die ≡ Some kind → interval_of kind ≡ Some (numbers_of kind) }
+{}

@@ -4,22 +4,29 @@
 //! The names and numbers of everything else in `.debug_info` aren't read from it.
 #![tactic(auto)]
 
-mod attributes;
-mod claim;
-mod counts;
+mod by_name;
+mod constants;
 mod debug;
+mod debug_counts;
 mod fault;
+mod fixed;
 mod functions;
+mod held;
 mod judging;
+mod kind;
 mod laws;
+mod line_tables;
 mod list_ends;
+mod name_key;
 mod names;
-mod owner;
-mod pieces;
+mod open_entries;
 mod ranges;
-mod tags;
+mod types;
+mod variables;
 
-pub use counts::Counts;
 pub use debug::{Debug, read_debug};
+pub use debug_counts::Counts;
 pub use fault::NamesFault;
-pub use laws::{first_function, one_debug};
+pub use held::Held;
+pub use kind::Kind;
+pub use laws::{ambiguous_names, first_function, no_variable, one_debug, scalar_numbers};

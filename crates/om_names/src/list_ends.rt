@@ -5,8 +5,8 @@
 //! one place is kept for each remainder.
 
 ghost use Rattle.std.specs.Prelude.{◌≡◌, ℕ, ◌+◌, ◌<◌, ◌^◌, List, drop, is_some, IfOk};
-ghost use Rattle.om_die.specs.Ranges.{range_list};
-ghost use Rattle.om_names.specs.Ends.{AreEnds, IsLastEnd, is_end_at, is_zero_at};
+ghost use Rattle.om_die.specs.RangeLists.{range_list};
+ghost use Rattle.om_names.specs.ListEnds.{AreEnds, IsLastEnd, is_end_at, is_zero_at};
 
 use om_base::{Items, NoMemory, u32_at};
 use std::alloc::Global;

@@ -1,5 +1,5 @@
-//! The names of entries: DWARF 4, section 2.15, and sections 2.13.2, 3.3.8 and 5.5.7 on entries that
-//! complete others.
+//! What entries tell of names and types: DWARF 4, section 2.15, and sections 2.13.2, 3.3.8 and 5.5.7 on
+//! entries that complete others.
 
 ghost use Rattle.std.specs.Prelude.{◌≡◌, ◌++◌, IfOk, OnOk, ℕ, List};
 ghost use Rattle.std.specs.Option.{option_or};
@@ -7,27 +7,34 @@ ghost use Rattle.om_die.specs.Units.{dies_of_units};
 ghost use Rattle.om_die.specs.declared.die.Die.{Die};
 ghost use Rattle.om_names.specs.Functions.{link_of, own_name, target_in};
 ghost use Rattle.om_names.specs.Information.{value_of};
-ghost use Rattle.om_names.specs.Names.{AreNames, find_in, name_by, name_from, told_at, told_of};
+ghost use Rattle.om_names.specs.Names.{AreNames, find_in, name_from, name_told, told_at, reached_by, told_of, type_told};
+ghost use Rattle.om_names.specs.Types.{own_type};
 
-use crate::attributes::{DW_AT_ABSTRACT_ORIGIN, DW_AT_NAME, DW_AT_SPECIFICATION};
+use crate::types::Shape;
 use om_base::{Name, NoMemory};
-use om_die::{AttrValue, Die, Units};
+use om_die::{
+    AttrValue, DW_AT_ABSTRACT_ORIGIN, DW_AT_NAME, DW_AT_SPECIFICATION, DW_AT_TYPE, Die, Units,
+};
 use std::alloc::Global;
 use std::collections::BTreeMap;
 
-/// The most links from an entry to the one that has its name.
-const MOST_LINKS: u32 = 4;
+/// The most links from an entry to the one that has its name, or its type.
+pub const MOST_LINKS: u32 = 4;
 
-/// What an entry tells of its name.
+/// What an entry tells.
 #[derive(Debug, Drop)]
 pub struct Told<'a> {
-    /// Its own.
+    /// Its own name.
     pub name: Option<Name<'a>>,
+    /// The offset of its own type.
+    pub type_at: Option<u32>,
     /// The offset of the entry that it is told by.
     pub link: Option<u32>,
+    /// What it is as a type.
+    pub shape: Shape,
 }
 
-/// What the entries tell of their names, by their offsets.
+/// What the entries tell, by their offsets.
 #[derive(Debug, Drop)]
 pub struct Names<'a> {
     /// What the first entry at each offset tells.
@@ -39,7 +46,7 @@ fn own_name<'a>(die: &Die<'a>) -> Option<Name<'a>>
     ensures { result ≡ own_name die.now }
 {
     match die.attribute(DW_AT_NAME) {
-        Some(AttrValue::Text(name)) => Some(Name::of(name.bytes())),
+        Some(AttrValue::Text(name)) => Some(name),
         _ => None,
     }
 }
@@ -49,9 +56,16 @@ fn target(die: &Die, name: u32) -> Option<u32>
     ensures { result ≡ target_in (value_of name die.now) }
 {
     match die.attribute(name) {
-        Some(AttrValue::Target(offset)) => Some(*offset),
+        Some(AttrValue::Target(offset)) => Some(offset),
         _ => None,
     }
+}
+
+/// An entry's own type.
+fn own_type(die: &Die) -> Option<u32>
+    ensures { result ≡ own_type die.now }
+{
+    target(die, DW_AT_TYPE)
 }
 
 /// The entry that an entry is told by.
@@ -71,7 +85,9 @@ impl<'a> Told<'a> {
     {
         Told {
             name: own_name(die),
+            type_at: own_type(die),
             link: link_of(die),
+            shape: Shape::of(die),
         }
     }
 }
@@ -100,7 +116,7 @@ impl<'a> Names<'a> {
     /// The name of an entry: its own, else that of the entry that it is told by, in so many links at
     /// most.
     fn name_in(&self, links: u32, told: &Told<'a>) -> Option<Name<'a>>
-        ensures { result ≡ name_by links (find_in self.now) told.now }
+        ensures { result ≡ reached_by name_told links (find_in self.now) told.now }
     {
         if let Some(name) = &told.name {
             return Some(Name::of(name.bytes()));
@@ -117,6 +133,26 @@ impl<'a> Names<'a> {
         self.name_in(links - 1, next)
     }
 
+    /// The type of an entry: its own, else that of the entry that it is told by, in so many links at
+    /// most.
+    pub fn type_in(&self, links: u32, told: &Told<'a>) -> Option<u32>
+        ensures { result ≡ reached_by type_told links (find_in self.now) told.now }
+    {
+        if let Some(offset) = told.type_at {
+            return Some(offset);
+        }
+        if links == 0 {
+            return None;
+        }
+        let Some(offset) = told.link else {
+            return None;
+        };
+        let Some(next) = self.by_offset.get(&offset) else {
+            return None;
+        };
+        self.type_in(links - 1, next)
+    }
+
     /// The name of an entry.
     pub fn name_of(&self, die: &Die<'a>) -> Option<Name<'a>>
         ensures { result ≡ name_from self.now die.now }
@@ -125,7 +161,7 @@ impl<'a> Names<'a> {
     }
 }
 
-/// What all entries tell of their names.
+/// What all entries tell.
 pub fn read_names<'a>(alloc: Global, units: &Units<'a>) -> Result<Names<'a>, NoMemory>
     ensures { IfOk result (λ names. AreNames (dies_of_units units.now.list) names) }
 {

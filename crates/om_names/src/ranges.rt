@@ -5,9 +5,10 @@ ghost use Rattle.std.specs.Option.{option_map};
 ghost use Rattle.om_die.specs.Shown as shown;
 ghost use Rattle.om_names.specs.Ranges.{base_of, end_in, listed, low_pc, own_range, ranges_by, ranges_offset};
 
-use crate::attributes::{DW_AT_HIGH_PC, DW_AT_LOW_PC, DW_AT_RANGES};
 use om_base::{Items, NoMemory, Span};
-use om_die::{AttrValue, Die, DieFault, Unit, read_ranges};
+use om_die::{
+    AttrValue, DW_AT_HIGH_PC, DW_AT_LOW_PC, DW_AT_RANGES, Die, DieFault, Unit, read_ranges,
+};
 use std::alloc::Global;
 
 /// The number of addresses.
@@ -18,7 +19,7 @@ fn low_pc(die: &Die) -> Option<u32>
     ensures { result ≡ low_pc die.now }
 {
     match die.attribute(DW_AT_LOW_PC) {
-        Some(AttrValue::Addr(address)) => Some(*address),
+        Some(AttrValue::Addr(address)) => Some(address),
         _ => None,
     }
 }
@@ -57,7 +58,7 @@ pub fn own_range(die: &Die) -> Option<Span>
     let Some(value) = die.attribute(DW_AT_HIGH_PC) else {
         return None;
     };
-    let Some(hi) = end_of(low, value) else {
+    let Some(hi) = end_of(low, &value) else {
         return None;
     };
     let lo = u64::from(low);
@@ -69,8 +70,8 @@ pub fn ranges_offset(die: &Die) -> Option<u32>
     ensures { result ≡ ranges_offset die.now }
 {
     match die.attribute(DW_AT_RANGES) {
-        Some(AttrValue::Offset(offset)) => Some(*offset),
-        Some(AttrValue::Number(offset)) => u32::try_from(*offset).ok(),
+        Some(AttrValue::Offset(offset)) => Some(offset),
+        Some(AttrValue::Number(offset)) => u32::try_from(offset).ok(),
         _ => None,
     }
 }

@@ -3,7 +3,7 @@
 ghost use Rattle.std.specs.Prelude.{◌==◌, if◌then◌else◌};
 ghost use Rattle.om_eval.specs.declared.value.Owned.TheVariants.{Null};
 
-use om_base::{Interval, NoMemory, Text};
+use om_base::{Interval, Name, NoMemory, Text};
 use om_eval::{
     Catalog, Cells, Column, ColumnId, Compare, Cond, Expr, LookMeter, Owned, RowView, Truth, Value,
     VarInfo, look, recheck, truth_of, value_at, value_of,
@@ -178,7 +178,7 @@ fn values_are_cells_and_numbers(rt: HostRuntime) -> Result<(), Fail> {
 
     let mut catalog: Catalog = om_base::Items::new(rt.alloc());
     catalog.push(VarInfo {
-        name: Text::copy_of(rt.alloc(), b"counter")?,
+        name: Name::of(b"counter"),
         scalar: Some(Interval { lo: 0, hi: 255 }),
         ambiguous: false,
         fixed: true,

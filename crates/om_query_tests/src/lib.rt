@@ -1,4 +1,4 @@
-//! Tests of queries, tables and what surrounds them: the crates `om_base`, `om_io`, `om_parse`, `om_eval` and `om_table`.
+//! Tests of queries, tables and what surrounds them: the crates `om_base`, `om_io`, `om_parse`, `om_eval`, `om_table` and `om_type`.
 #![tactic(auto)]
 
 #[cfg(test)]
@@ -11,5 +11,7 @@ mod io;
 mod parse;
 #[cfg(test)]
 mod table;
+#[cfg(test)]
+mod typing;
 #[cfg(test)]
 mod unmoved;

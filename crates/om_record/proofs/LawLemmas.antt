@@ -9,7 +9,7 @@ use Rattle.om_log.specs.declared.entry.Entry.TheVariants as entry
 use Rattle.om_log.specs.declared.start.Start.{Start}
 use Rattle.om_record.specs.Kernel.{answer_to}
 use Rattle.om_record.specs.Recording.{Moment, after_moment, arguments_of, call_of, end_at, end_entry, ending_of, entries_at, entries_below, entries_of, exit_end_at, end_by_exit, moment_at, start_of, end_by_stop}
-use Rattle.om_record.specs.Walk.{last_of}
+use Rattle.om_record.specs.Progress.{last_of}
 use Rattle.om_record.proofs.EndLemmas.{IsEnding, at_limit, at_step, before_end_none, cut, end_within, is_ending, one_more, or_some}
 use Rattle.om_record.proofs.KernelLemmas.{writes_inside}
 use Rattle.om_record.proofs.RunLemmas.{below_next}

@@ -1,6 +1,6 @@
 pub mod KernelLemmas
 pub mod TellingLemmas
-pub mod WalkLemmas
+pub mod ProgressLemmas
 pub mod EndLemmas
 pub mod RunLemmas
 pub mod MadeLemmas

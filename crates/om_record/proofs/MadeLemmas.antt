@@ -4,18 +4,20 @@ use Rattle.std.specs.Option.{option_or}
 use Rattle.std.proofs.lemmas.Bool.{cases_lt, lt-ltb, le-ltb, ltb-false, ltb-true}
 use Rattle.std.proofs.lemmas.List.{map-append}
 use Rattle.om_base.specs.Limits.{most_bytes}
+use Rattle.om_base.specs.Spans as spans
 use Rattle.om_elf.specs.Image.{Image}
 use Rattle.om_elf.specs.declared.elf.Elf.{Elf}
 use Rattle.om_log.specs.Grammar.{Fits, HasCause, IsEnd as IsEndEntry, IsLog, MayStand, header, spelling, spellings, step_of}
-use Rattle.om_log.specs.Regions.{AreApart, FitsStart, HasRoom}
+use Rattle.om_log.specs.Regions.{FitsStart, HasRoom, heap_span, stack_span}
 use Rattle.om_log.specs.Writing.{Written, file_of}
 use Rattle.om_log.specs.declared.entry.Entry.{Entry}
 use Rattle.om_log.specs.declared.start.Start.{Start}
+use Rattle.om_log.proofs.RegionLemmas.{lawful_of}
 use Rattle.om_mem.specs.Contents.{Filled, overlap_of}
 use Rattle.om_mem.specs.declared.region.Region.{Region}
 use Rattle.om_mem.proofs.OverlapLemmas.{overlap_from, overlap_of-from, overlap_parts, position_none, shares}
 use Rattle.om_record.specs.Recording.{Makes, Moment, bytes_of, call_of, end_at, end_entry, ending_of, entries_at, entries_below, entries_of, log_of, mark_of, recorded_by, size_through, moment_at, start_of, end_by_stop, too_long, too_long_at}
-use Rattle.om_record.specs.Walk.{IsAt, IsFull, known_ending, last_of, call_entry_at, entries_before}
+use Rattle.om_record.specs.Progress.{IsAt, IsFull, known_ending, last_of, call_entry_at, entries_before}
 use Rattle.om_record.specs.declared.recorded.Recorded.{Recorded}
 use Rattle.om_record.specs.declared.recorded.RecordFault.{RecordFault}
 use Rattle.om_record.specs.declared.recorded.RecordFault.TheVariants.{NoMemory, TooLong, NoRoom}
@@ -202,16 +204,15 @@ last_apart : (n : ℕ) (regions : List Region) (s h : Region) → overlap_from n
 last_apart n [] s h is = (position_none (shares s) h [] (overlap_parts n s (h ∷ []) is).0).0
 last_apart n (r ∷ rs) s h is = last_apart (n + 1) rs s h (overlap_parts n r (rs ++ s ∷ h ∷ []) is).1
 
-apart_start : (images : List Image) (start : Start) → overlap_of (regions_of images start) ≡ None → AreApart start
+apart_start : (images : List Image) (start : Start) → overlap_of (regions_of images start) ≡ None → spans.shares (stack_span start) (heap_span start) ≡ false
 unfolding filled_of
-apart_start images start none address in_stack in_heap =
+apart_start images start none =
     let segments = map segment_of (filter (λ (image : Image). nat_lt 0 image.memsz) images) in
     let regions = map (λ (f : Filled). f.region) segments in
     let split : regions_of images start ≡ regions ++ (stack_of start).region ∷ (heap_of start).region ∷ [] =
     map-append (λ (f : Filled). f.region) segments (stack_of start ∷ heap_of start ∷ []) in
     let last = regions ++ (stack_of start).region ∷ (heap_of start).region ∷ [] in
-    let apart = ltb-false _ _ (last_apart 0 regions (stack_of start).region (heap_of start).region (sym (overlap_of-from last) ∙ ap overlap_of (sym split) ∙ none)) in
-    omega (arith, apart, in_stack.0, in_stack.1, in_heap.0, in_heap.1)
+    last_apart 0 regions (stack_of start).region (heap_of start).region (sym (overlap_of-from last) ∙ ap overlap_of (sym split) ∙ none)
 
 -- ---- the log
 
@@ -286,7 +287,7 @@ log_end elf input limit i m e written exit recorded at end is start begins room 
     record {
       lawful = record {
         fits = fits_start elf.segments (rw begins at room);
-        start = record { room = rw begins at room; apart = rw begins at (apart_start elf.segments start apart) };
+        start = lawful_of (start_of elf.segments) (rw begins at room) (rw begins at (apart_start elf.segments start apart));
         entries = rw (entries_are elf input limit i m e at.stands end) (before_end 0 i logged (end_entry e) at.lawful (is_end e) (may_end elf input limit i e end));
         ended = rw (entries_are elf input limit i m e at.stands end) (end_there logged (end_entry e) (is_end e));
       };

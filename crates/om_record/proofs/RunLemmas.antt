@@ -12,7 +12,7 @@ use Rattle.om_log.specs.declared.start.Start.{Start}
 use Rattle.om_log.proofs.WriteLaws.{length-header}
 use Rattle.om_record.specs.Kernel.{Kernel, answer_to}
 use Rattle.om_record.specs.Recording.{Moment, after_moment, call_of, end_at, ending_of, entries_at, entries_below, exit_end_at, end_by_exit, mark_of, moment_at, served, start_of, end_by_stop}
-use Rattle.om_record.specs.Walk.{AreBefore, GoesOn, IsAt, IsLogged, IsWalk, exit_argument, exit_ending, last_of, moment, steps_on, call_entry_at, entries_before}
+use Rattle.om_record.specs.Progress.{AreBefore, GoesOn, IsAt, IsLogged, IsWalk, exit_argument, exit_ending, last_of, moment, steps_on, call_entry_at, entries_before}
 use Rattle.om_record.proofs.EndLemmas.{is_ending, last_or, one_more, up_to_last}
 use Rattle.om_record.proofs.TellingLemmas.{append_none, before_append, spellings_append, spellings_none}
 use Rattle.om_run.specs.Departure.{is_exit}

@@ -9,7 +9,7 @@ use Rattle.om_log.specs.Grammar.{spelling}
 use Rattle.om_log.specs.LittleEndian.{le_bytes}
 use Rattle.om_mem.specs.Contents.{overlap_of}
 use Rattle.om_record.specs.Recording.{bytes_of, end_entry, ending_of, entries_below, entries_of, heap_place, log_of, made, no_room, recorded_by, recorded_in, recording, size_through, start_of, too_long_at}
-use Rattle.om_record.specs.Walk.{last_of}
+use Rattle.om_record.specs.Progress.{last_of}
 use Rattle.om_record.specs.declared.recorded.Recorded.{Recorded}
 use Rattle.om_record.proofs.EndLemmas.{one_more}
 use Rattle.om_record.proofs.TellingLemmas.{spellings_append, spellings_one}

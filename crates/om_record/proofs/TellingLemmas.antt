@@ -9,7 +9,7 @@ use Rattle.om_log.specs.declared.entry.Entry.TheVariants as entry
 use Rattle.om_log.specs.declared.start.Start.{Start}
 use Rattle.om_record.specs.Kernel.{answer_to}
 use Rattle.om_record.specs.Recording.{Moment, arguments_of, end_entry}
-use Rattle.om_record.specs.Walk.{AreBefore, call_entry_at}
+use Rattle.om_record.specs.Progress.{AreBefore, call_entry_at}
 use Rattle.om_record.proofs.KernelLemmas.{writes_few}
 use Rattle.om_run.specs.declared.logged.RunEnd.{RunEnd}
 use Rattle.om_step.specs.State.{register}

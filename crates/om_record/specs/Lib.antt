@@ -1,3 +1,3 @@
 pub mod Kernel
 pub mod Recording
-pub mod Walk
+pub mod Progress

@@ -1,10 +1,11 @@
 -- The log that a run with an input makes: its regions, its states, its entries and its end.
-use Rattle.std.specs.Prelude.{◌≡◌, ℕ, zero, suc, ◌+◌, ◌*◌, ◌/◌, ◌%◌, ◌^◌, ◌&&◌, nat_eq, nat_lt, max, if◌then◌else◌, List, [], ◌∷◌, ◌++◌, length, map, filter, flat_map, find, Option, Some, None, unwrap_or, Result, Ok, Err}
+use Rattle.std.specs.Prelude.{◌≡◌, ℕ, zero, suc, ◌+◌, ◌-◌, ◌*◌, ◌/◌, ◌%◌, ◌^◌, ◌&&◌, nat_eq, nat_lt, max, if◌then◌else◌, List, [], ◌∷◌, ◌++◌, length, map, filter, flat_map, find, Option, Some, None, unwrap_or, Result, Ok, Err}
 use Rattle.std.specs.Option.{option_or}
 use Rattle.om_base.specs.Firsts.{first_of}
-use Rattle.om_base.specs.Limits.{most_bytes}
+use Rattle.om_base.specs.Limits.{most_bytes, page_size}
 use Rattle.om_elf.specs.Image.{Image}
 use Rattle.om_elf.specs.declared.elf.Elf.{Elf}
+use Rattle.om_log.specs.EndCauses.{by_cut, by_exit, by_stop}
 use Rattle.om_log.specs.Grammar.{header, spellings}
 use Rattle.om_log.specs.declared.entry.Entry.{Entry}
 use Rattle.om_log.specs.declared.entry.Entry.TheVariants as entry
@@ -35,9 +36,9 @@ abbrev pub greatest_end : List Image → ℕ
 greatest_end [] = 0
 greatest_end (image ∷ images) = max (image.vaddr + image.memsz) (greatest_end images)
 
--- a number rounded up to a multiple of 4096
+-- a number rounded up to that of a whole page
 abbrev pub rounded_up : ℕ → ℕ
-rounded_up n = (n + 4095) / 4096 * 4096
+rounded_up n = (n + (page_size - 1)) / page_size * page_size
 
 -- a stack of 1 MiB below 2 GiB, and a heap of 1 MiB behind the last segment
 unfoldable pub start_of : List Image → Start
@@ -83,7 +84,7 @@ moment_at elf input (suc i) =
 -- the end at this step of a run that makes a call that exits just before
 abbrev pub end_by_exit : Outcome → State → ℕ → Option RunEnd
 end_by_exit (Next touched) s i = None
-end_by_exit Call s i = if is_exit (register s 17) then Some (record { step = i; cause = 0; value = register s 10 }) else None
+end_by_exit Call s i = if is_exit (register s 17) then Some (record { step = i; cause = by_exit; value = register s 10 }) else None
 end_by_exit (Stop cause) s i = None
 
 abbrev pub exit_end_at : Elf → List ℕ → ℕ → Option RunEnd
@@ -94,7 +95,7 @@ exit_end_at elf input (suc i) = end_by_exit (outcome (moment_at elf input i).sta
 abbrev pub end_by_stop : Outcome → ℕ → Option RunEnd
 end_by_stop (Next touched) i = None
 end_by_stop Call i = None
-end_by_stop (Stop cause) i = Some (record { step = i; cause = 2; value = code_of cause })
+end_by_stop (Stop cause) i = Some (record { step = i; cause = by_stop; value = code_of cause })
 
 -- the end at a step: behind a call that exits, or below the limit where the machine stops
 abbrev pub end_at : Elf → List ℕ → (limit i : ℕ) → Option RunEnd
@@ -104,7 +105,7 @@ end_at elf input limit i =
 -- the end of the run: the first one up to the limit, at which it is cut
 unfoldable pub ending_of : Elf → List ℕ → (limit : ℕ) → RunEnd
 ending_of elf input limit =
-    unwrap_or (first_of (map (end_at elf input limit) (below (limit + 1)))) (record { step = limit; cause = 1; value = 0 })
+    unwrap_or (first_of (map (end_at elf input limit) (below (limit + 1)))) (record { step = limit; cause = by_cut; value = 0 })
 
 -- ---- the entries
 

@@ -4,7 +4,7 @@ ghost use Rattle.std.specs.Prelude.{◌≡◌, ◌+◌, ◌-◌, ◌^◌, ◌<�
 ghost use Rattle.std.specs.List.{AllByRecursion};
 ghost use Rattle.om_record.specs.Kernel.{answer_to};
 ghost use Rattle.om_record.specs.Recording.{arguments_of, served};
-ghost use Rattle.om_record.specs.Walk.{AreBefore, IsFull, IsLogged, IsWalk, PausesAt, exit_argument, moment, call_entry_at};
+ghost use Rattle.om_record.specs.Progress.{AreBefore, IsFull, IsLogged, IsWalk, PausesAt, exit_argument, moment, call_entry_at};
 ghost use Rattle.om_step.specs.Step.{outcome};
 ghost use Rattle.om_step.specs.declared.outcome.Outcome.{Outcome};
 
@@ -67,7 +67,7 @@ impl<'a> Process<'a> {
     }
 
     /// Steps up to the one of this number, if no call and no stop is on the way.
-    #[tactic(auto, using(crate::proofs::WalkLemmas::walk_none, crate::proofs::WalkLemmas::walk_more))]
+    #[tactic(auto, using(crate::proofs::ProgressLemmas::walk_none, crate::proofs::ProgressLemmas::walk_more))]
     pub fn walk(&mut self, until: u64) -> Pause
         requires { self.old.meter ≤ until }
         ensures walk { IsWalk self.old.machine.state (self.new.meter - self.old.meter) self.new.machine.state }

@@ -9,7 +9,7 @@ pub struct Recorded {
     pub bytes: Bytes,
     /// The last step.
     pub steps: u64,
-    /// 0 for an exit, 1 for a cut, 2 for a stop.
+    /// `BY_EXIT`, `BY_CUT` or `BY_STOP` of `om_log`.
     pub cause: u8,
     /// The exit's first argument, 0, or the stop's code.
     pub value: u32,

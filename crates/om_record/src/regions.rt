@@ -5,6 +5,7 @@ ghost use Rattle.om_elf.specs.Image.{AreLoadable};
 ghost use Rattle.om_log.specs.Regions.{HasRoom};
 ghost use Rattle.om_record.specs.Recording.{greatest_end, heap_place, nonempty, start_of};
 
+use om_base::PAGE_SIZE;
 use om_elf::Segment;
 use om_log::Start;
 
@@ -17,7 +18,7 @@ const STACK_SIZE: u32 = 0x0010_0000;
 const HEAP_SIZE: u32 = 0x0010_0000;
 
 /// The size of a page, in bytes.
-const PAGE: u64 = 4096;
+const PAGE: u64 = PAGE_SIZE as u64;
 
 /// How many addresses there are.
 const ADDRESSES: u64 = 1 << 32;

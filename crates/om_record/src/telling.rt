@@ -1,16 +1,17 @@
 //! Tells a run to its log, which has room for so many bytes.
 
 ghost use Rattle.std.specs.Prelude.{◌≡◌, ◌∷◌, [], ◌++◌, ◌<◌, ◌≤◌, ◌+◌, ◌%◌, ◌^◌, ◌&&◌, ℕ, false, nat_eq, nat_lt, IfErr, IfOk, IfSome, OnOk};
+ghost use Rattle.om_log.specs.EndCauses.{by_stop};
 ghost use Rattle.om_log.specs.Grammar.{spelling};
 ghost use Rattle.om_log.specs.Writing.{HasShortWrites, file_of};
 ghost use Rattle.om_record.specs.Recording.{end_entry, mark_of};
-ghost use Rattle.om_record.specs.Walk.{AreBefore, HasRoomForEnd, IsFull, IsLogged, known_ending};
+ghost use Rattle.om_record.specs.Progress.{AreBefore, HasRoomForEnd, IsFull, IsLogged, known_ending};
 ghost use Rattle.om_step.specs.Step.{code_of};
 ghost use Rattle.om_record.specs.declared.recorded.RecordFault.TheVariants.{NoMemory};
 
 use crate::recorded::{RecordFault, Recorded};
 use om_base::MOST_BYTES;
-use om_log::{Entry, LogWriter};
+use om_log::{BY_CUT, BY_EXIT, BY_STOP, Entry, LogWriter};
 use om_run::RunEnd;
 use om_step::{Cause, Machine};
 
@@ -19,13 +20,6 @@ const END_BYTES: u64 = 14;
 
 /// A mark stands at each step above 0 and below the limit that is a multiple of this.
 const MARK_EVERY: u64 = 65_536;
-
-/// The causes of an end.
-const EXIT: u8 = 0;
-
-const CUT: u8 = 1;
-
-const STOP: u8 = 2;
 
 /// Writes an entry of a step, if the log has room for it with an END behind it.
 ///
@@ -99,14 +93,14 @@ pub(crate) fn known_end(exit: Option<u32>, step: u64, limit: u64) -> Option<RunE
     if let Some(value) = exit {
         return Some(RunEnd {
             step,
-            cause: EXIT,
+            cause: BY_EXIT,
             value,
         });
     }
     if step >= limit {
         return Some(RunEnd {
             step,
-            cause: CUT,
+            cause: BY_CUT,
             value: 0,
         });
     }
@@ -115,11 +109,11 @@ pub(crate) fn known_end(exit: Option<u32>, step: u64, limit: u64) -> Option<RunE
 
 /// The end at a step at which the machine stops.
 pub(crate) fn end_by_stop(step: u64, cause: Cause) -> RunEnd
-    ensures { result ≡ record { step = step; cause = 2; value = code_of cause } }
+    ensures { result ≡ record { step = step; cause = by_stop; value = code_of cause } }
 {
     RunEnd {
         step,
-        cause: STOP,
+        cause: BY_STOP,
         value: cause.code(),
     }
 }

@@ -1,3 +1,3 @@
-pub mod WalkLemmas
+pub mod PositionLemmas
 pub mod RunLemmas
 pub mod TableLemmas

@@ -20,7 +20,7 @@ use Rattle.om_run.specs.declared.logged.LoggedCall.{LoggedCall}
 use Rattle.om_run.specs.declared.logged.RunEnd.{RunEnd}
 use Rattle.om_step.specs.declared.outcome.Outcome.{Outcome}
 use Rattle.om_step.specs.declared.outcome.Outcome.TheVariants.{Next, Call as StandsAtCall, Stop}
-use Rattle.om_run.proofs.WalkLemmas.{err, goes_before, departs_before}
+use Rattle.om_run.proofs.PositionLemmas.{err, goes_before, departs_before}
 
 -- ---- the first departure of one step more
 

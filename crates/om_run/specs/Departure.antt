@@ -2,6 +2,7 @@
 use Rattle.std.specs.Prelude.{ℕ, zero, suc, ◌+◌, Bool, false, not, ◌&&◌, ◌||◌, nat_eq, nat_lt, if◌then◌else◌, List, [], ◌∷◌, slice_index, map, Option, Some, None}
 use Rattle.std.specs.Option.{option_and_then, option_map, option_map_or, option_or}
 use Rattle.om_base.specs.Firsts.{first_of}
+use Rattle.om_log.specs.EndCauses.{by_exit, by_stop}
 use Rattle.om_log.specs.declared.entry.Entry.{Entry}
 use Rattle.om_step.specs.State.{State, register, sum_of}
 use Rattle.om_step.specs.Step.{outcome, outside_of, code_of}
@@ -51,7 +52,7 @@ is_exit number = nat_eq number 93 || nat_eq number 94
 -- an end by exit stands after a call that exits
 abbrev pub end_exit : RunEnd → Option LoggedCall → Option Broken
 end_exit end call =
-    if nat_eq end.cause 0 && not (is_exit (number_of call)) then broken end.value (number_of call) else None
+    if nat_eq end.cause by_exit && not (is_exit (number_of call)) then broken end.value (number_of call) else None
 
 -- an argument of a call, or 0 where there is none
 abbrev pub argument_at : Option LoggedCall → ℕ → ℕ
@@ -60,7 +61,7 @@ argument_at call j = option_map_or (λ (c : LoggedCall). slice_index c.arguments
 -- the value of an end by exit is the call's first argument
 abbrev pub end_value : RunEnd → Option LoggedCall → Option Broken
 end_value end call =
-    if nat_eq end.cause 0 && not (nat_eq (argument_at call 0) end.value) then broken end.value (argument_at call 0) else None
+    if nat_eq end.cause by_exit && not (nat_eq (argument_at call 0) end.value) then broken end.value (argument_at call 0) else None
 
 -- the machine has a stop of that code
 abbrev pub stops_with : ℕ → Outcome → Bool
@@ -77,7 +78,7 @@ stop_code (Stop cause) = code_of cause
 -- an end by a stop stands where the machine has that stop
 abbrev pub end_stop : RunEnd → Outcome → Option Broken
 end_stop end happens =
-    if nat_eq end.cause 2 && not (stops_with end.value happens) then broken end.value (stop_code happens) else None
+    if nat_eq end.cause by_stop && not (stops_with end.value happens) then broken end.value (stop_code happens) else None
 
 -- ---- a step before the last one
 

@@ -2,4 +2,4 @@ pub mod Run
 pub mod Departure
 pub mod Table
 pub mod Replay
-pub mod Walk
+pub mod Position

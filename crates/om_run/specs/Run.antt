@@ -2,6 +2,7 @@
 use Rattle.std.specs.Prelude.{ℕ, zero, suc, ◌+◌, ◌<◌, nat_eq, if◌then◌else◌, List, [], ◌∷◌, ◌++◌, map, Option, Some, None}
 use Rattle.std.specs.Option.{option_map_or}
 use Rattle.om_log.specs.Chunk.{Chunk}
+use Rattle.om_log.specs.EndCauses.{by_cut}
 use Rattle.om_log.specs.Grammar.{step_of}
 use Rattle.om_log.specs.declared.entry.Entry.{Entry}
 use Rattle.om_log.specs.declared.entry.Entry.TheVariants.{Call, Mark, End}
@@ -35,7 +36,7 @@ marks_of (End step cause value ∷ entries) i = marks_of entries i
 
 -- the end that a log tells; a log that keeps the format's rules tells one
 abbrev pub end_of : List Entry → RunEnd
-end_of [] = record { step = 0; cause = 1; value = 0 }
+end_of [] = record { step = 0; cause = by_cut; value = 0 }
 end_of (End step cause value ∷ entries) = record { step = step; cause = cause; value = value }
 end_of (Call step number args result writes ∷ entries) = end_of entries
 end_of (Mark step pc sum ∷ entries) = end_of entries

@@ -1,6 +1,7 @@
 -- The table of departures: the rules of a step in their order, each with its whole guard and its two numbers.
 use Rattle.std.specs.Prelude.{ℕ, ◌+◌, Bool, false, true, not, ◌&&◌, nat_eq, nat_lt, if◌then◌else◌, List, [], ◌∷◌, ◌++◌, Option, Some, None, unwrap_or, is_some, is_none}
 use Rattle.std.specs.List.{flat_map}
+use Rattle.om_log.specs.EndCauses.{by_exit, by_stop}
 use Rattle.om_log.specs.declared.entry.Entry.{Entry}
 use Rattle.om_step.specs.State.{State, register, sum_of}
 use Rattle.om_step.specs.Step.{outcome, outside_of}
@@ -70,21 +71,21 @@ mark_rules s mark =
     ∷ rule MarkSum (not (nat_eq mark.sum (sum_of s))) mark.sum (sum_of s)
     ∷ []
 
--- 3: at the last step, cause 0, and no call of the step before exits
+-- 3: at the last step, an end by exit, and no call of the step before exits
 abbrev pub end_exit_rule : Judged → Rule
 end_exit_rule at =
-    rule EndExit (at.is_last && (nat_eq at.end.cause 0 && not (is_exit_call at.before_end))) at.end.value (number_of at.before_end)
+    rule EndExit (at.is_last && (nat_eq at.end.cause by_exit && not (is_exit_call at.before_end))) at.end.value (number_of at.before_end)
 
--- 4: at the last step, cause 0, the call of the step before exits, and its first argument isn't the value
+-- 4: at the last step, an end by exit, the call of the step before exits, and its first argument isn't the value
 abbrev pub end_value_rule : Judged → Rule
 end_value_rule at =
-    rule EndValue (at.is_last && (nat_eq at.end.cause 0 && (is_exit_call at.before_end && not (nat_eq (argument_at at.before_end 0) at.end.value))))
+    rule EndValue (at.is_last && (nat_eq at.end.cause by_exit && (is_exit_call at.before_end && not (nat_eq (argument_at at.before_end 0) at.end.value))))
     at.end.value (argument_at at.before_end 0)
 
--- 5: at the last step, cause 2, and the machine has no stop of that code
+-- 5: at the last step, an end by a stop, and the machine has no stop of that code
 abbrev pub end_stop_rule : Judged → Rule
 end_stop_rule at =
-    rule EndStop (at.is_last && (nat_eq at.end.cause 2 && not (stops_with at.end.value at.happens))) at.end.value (stop_code at.happens)
+    rule EndStop (at.is_last && (nat_eq at.end.cause by_stop && not (stops_with at.end.value at.happens))) at.end.value (stop_code at.happens)
 
 -- 6: before the last step, an ECALL, and no call of the step
 abbrev pub call_rule : Judged → Rule

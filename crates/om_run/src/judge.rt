@@ -1,22 +1,23 @@
 //! One step of a replay, judged by the rules in their order.
 
-ghost use Rattle.std.specs.Prelude.{◌≡◌, ◌+◌, ◌-◌, ◌^◌, ◌<◌, ◌∷◌, [], Some, None, Option, is_ok, OnErr, if◌then◌else◌, map};
-ghost use Rattle.om_step.specs.Step.{outcome};
+ghost use Rattle.std.specs.Prelude.{◌≡◌, ◌+◌, ◌-◌, ◌^◌, ◌<◌, ◌∷◌, [], Some, None, Option, is_ok, false, OnErr, if◌then◌else◌, map};
+ghost use Rattle.om_step.specs.Step.{next, outcome};
 ghost use Rattle.om_mem.specs.Pages.{IsKept};
 ghost use Rattle.om_step.specs.State.{held_of};
+ghost use Rattle.om_log.specs.EndCauses.{by_exit, by_stop};
 ghost use Rattle.om_log.specs.Grammar.{AreLawful};
 ghost use Rattle.om_base.specs.Firsts.{first_of};
 ghost use Rattle.om_run.specs.Departure.{call_before, departs_at_call, departs_at_end, departs_at_marks, departs_by, departs_for, departs_for_argument, departs_for_mark, end_stop, end_value, end_exit, write_outside};
 ghost use Rattle.om_run.specs.Departure.{stop_code, stops_with};
 ghost use Rattle.om_run.specs.Run.{marks_of};
-ghost use Rattle.om_run.specs.Walk.{departs_before_writes, end_halt, marks_or_end, step_leaves, step_verdict};
+ghost use Rattle.om_run.specs.Position.{departs_before_writes, end_halt, is_next, marks_or_end, step_leaves, step_verdict};
 ghost use Rattle.om_run.specs.declared.logged.LoggedCall.{LoggedCall};
 ghost use Rattle.om_run.specs.declared.logged.RunEnd.{RunEnd};
 ghost use Rattle.om_step.specs.declared.outcome.Outcome.{Outcome};
 
 use crate::departure::{Departure, Halt, Reason};
 use crate::logged::{LoggedCall, RunEnd, find_call_before, is_exit};
-use om_log::Entry;
+use om_log::{BY_EXIT, BY_STOP, Entry};
 use om_step::{ARGUMENT_0, CALL_NUMBER, Machine, Outcome, StepMeter, Touched};
 
 /// The arguments of a call, in the order in which they are judged.
@@ -70,7 +71,7 @@ fn judge_marks(entries: &[Entry<'_>], machine: &Machine, at: u64) -> Option<Depa
 
 /// Where an end by exit departs; `call` is the call of the step before.
 fn judge_exit(value: u32, call: Option<LoggedCall<'_>>, step: u64) -> Option<Departure>
-    ensures { (end : RunEnd) → end.cause ≡ 0 → end.value ≡ value → (happens : Outcome)
+    ensures { (end : RunEnd) → end.cause ≡ by_exit → end.value ≡ value → (happens : Outcome)
         → result ≡ departs_at_end end call.entry happens step }
 {
     let (number, first) = match call {
@@ -88,7 +89,7 @@ fn judge_exit(value: u32, call: Option<LoggedCall<'_>>, step: u64) -> Option<Dep
 
 /// Where an end by a stop departs.
 fn judge_stop(value: u32, happens: Outcome<'_>, step: u64) -> Option<Departure>
-    ensures { (end : RunEnd) → end.cause ≡ 2 → end.value ≡ value → (call : Option LoggedCall)
+    ensures { (end : RunEnd) → end.cause ≡ by_stop → end.value ≡ value → (call : Option LoggedCall)
         → result ≡ departs_at_end end call happens.entry step }
 {
     let Outcome::Stop(cause) = happens else {
@@ -105,8 +106,8 @@ fn halt_at_end(entries: &[Entry<'_>], machine: &Machine, end: RunEnd, step: u64)
     ensures { result ≡ end_halt (departs_at_end end (call_before entries.now end.step) (outcome machine.now.state) step) }
 {
     let departure = match end.cause {
-        0 => judge_exit(end.value, find_call_before(entries, end.step), step),
-        2 => judge_stop(end.value, machine.look(), step),
+        BY_EXIT => judge_exit(end.value, find_call_before(entries, end.step), step),
+        BY_STOP => judge_stop(end.value, machine.look(), step),
         _ => None,
     };
     match departure {
@@ -193,6 +194,22 @@ pub(crate) fn step_without_call<'a>(
             told: last,
             found: u64::from(cause.code()),
         })),
+    }
+}
+
+/// Makes one step, if it is that of an instruction, and answers whether it is.
+#[inline(always)] // so that a loop of steps has no call
+pub(crate) fn make_step(machine: &mut Machine, meter: &mut StepMeter) -> bool
+    requires { meter.old < 2 ^ 64 - 1 }
+    ensures made { result ≡ is_next (outcome machine.old.state) }
+    ensures state { machine.new.state ≡ next machine.old.state }
+    ensures meter { meter.new ≡ meter.old + (if result then 1 else 0) }
+    ensures left { result ≡ false → machine.new ≡ machine.old }
+    ensures kept { IsKept (held_of machine.old) (held_of machine.new) }
+{
+    match machine.step(meter) {
+        Outcome::Next(_) => true,
+        Outcome::Call | Outcome::Stop(_) => false,
     }
 }
 

@@ -4,11 +4,11 @@ ghost use Rattle.std.specs.Prelude.{◌≡◌, ◌∷◌, [], List, if◌then◌
 ghost use Rattle.om_run.specs.Run.{due, end_of};
 ghost use Rattle.om_run.specs.Departure as spec;
 ghost use Rattle.om_run.specs.Departure.{call_before};
-ghost use Rattle.om_run.specs.Walk.{from_step};
+ghost use Rattle.om_run.specs.Position.{from_step};
 ghost use Rattle.om_log.specs.Grammar.{AreLawful};
 ghost use Rattle.om_log.specs.declared.entry.Entry.{Entry};
 
-use om_log::{Entry, Writes};
+use om_log::{BY_CUT, Entry, Writes};
 
 /// The numbers of the calls that exit.
 const EXIT: u32 = 93;
@@ -33,7 +33,7 @@ pub struct LoggedCall<'a> {
 pub struct RunEnd {
     /// The last step.
     pub step: u64,
-    /// 0 for an exit, 1 for a cut, 2 for a stop.
+    /// `BY_EXIT`, `BY_CUT` or `BY_STOP` of `om_log`.
     pub cause: u8,
     /// The exit's first argument, 0, or the stop's code.
     pub value: u32,
@@ -61,7 +61,7 @@ pub(crate) fn find_end(entries: &[Entry<'_>]) -> RunEnd
     }
     RunEnd {
         step: 0,
-        cause: 1,
+        cause: BY_CUT,
         value: 0,
     }
 }

@@ -1,6 +1,6 @@
 //! A replay: a run made again, step by step along its log.
 
-ghost use Rattle.std.specs.Prelude.{◌≡◌, ◌+◌, ◌-◌, ◌^◌, ◌<◌, ◌≤◌, is_ok, if◌then◌else◌, length, drop, slice_index};
+ghost use Rattle.std.specs.Prelude.{◌≡◌, ◌+◌, ◌-◌, ◌^◌, ◌<◌, ◌≤◌, ◌&&◌, true, Ok, is_ok, if◌then◌else◌, length, drop, slice_index};
 ghost use Rattle.om_elf.specs.Image.{AreLoadable};
 ghost use Rattle.om_log.specs.Grammar.{IsLawfulLog};
 ghost use Rattle.om_mem.specs.Contents.{overlap_of};
@@ -9,10 +9,12 @@ ghost use Rattle.om_mem.specs.Gives.{Gives};
 ghost use Rattle.om_step.specs.Back.{HaveLengths, IsBack, IsClean};
 ghost use Rattle.om_run.specs.Replay.{IsKeptSince, beginning, here, moved, placed_at, verdict_at};
 ghost use Rattle.om_run.specs.Run.{end_of, state_at};
-ghost use Rattle.om_run.specs.Walk.{end_of_quiet};
+ghost use Rattle.om_run.specs.Position.{end_of_quiet, is_next, is_quiet};
+ghost use Rattle.om_step.specs.Step.{outcome};
+ghost use Rattle.om_step.specs.declared.outcome.Touched.{Touched};
 
 use crate::departure::Halt;
-use crate::judge::{halt_before, step_by, step_without_call};
+use crate::judge::{halt_before, make_step, step_by, step_without_call};
 use crate::logged::{RunEnd, find_end, first_call, skip_to};
 use om_elf::Elf;
 use om_log::{Entry, Log};
@@ -44,7 +46,7 @@ impl<'a> Model for Replay<'a> {
     ghost use Rattle.om_step.specs.First.{first_state};
     ghost use Rattle.om_step.specs.State.{state_code};
     ghost use Rattle.om_run.specs.Replay.{Place};
-    ghost use Rattle.om_run.specs.Walk.{IsPlaced, end_of_quiet};
+    ghost use Rattle.om_run.specs.Position.{IsPlaced, end_of_quiet};
 
     ghost Value = { Place };
 
@@ -119,6 +121,28 @@ impl<'a> Replay<'a> {
             return Ok(touched);
         }
         self.advance_by_entry(meter)
+    }
+
+    /// Makes the step, if the log tells nothing of it and it is that of an instruction, and answers whether
+    /// it did. Else nothing changes, and [`Replay::advance`] judges the step.
+    ///
+    /// It is for loops that don't ask what a step touches: that isn't put together.
+    #[inline(always)] // so that such a loop has no call
+    pub fn pass(&mut self, meter: &mut StepMeter) -> bool
+        requires { meter.old < 2 ^ 64 - 1 }
+        ensures passes { result ≡ (is_quiet self.old && is_next (outcome (here self.old))) }
+        ensures verdict { result ≡ true → (touched : Touched) × (verdict_at self.old ≡ Ok touched) }
+        ensures position { self.new ≡ (if result then record self.old { step = self.old.step + 1 } else self.old) }
+        ensures meter { meter.new ≡ meter.old + (if result then 1 else 0) }
+    {
+        if self.step >= self.quiet_until {
+            return false;
+        }
+        if !make_step(&mut self.machine, meter) {
+            return false;
+        }
+        self.step += 1;
+        true
     }
 
     /// One step at which the log tells something: its marks are judged first, then the end or the step itself.

@@ -3,7 +3,7 @@
 use Rattle.std.specs.Prelude.{ℕ, ◌+◌, ◌-◌, ◌*◌, ◌/◌, ◌%◌, ◌^◌, ℤ, pos, ◌*ℤ◌, Bool, true, false, not, nat_eq, nat_lt, bit_and, bit_or, bit_xor, int_lt, int_div, int_rem, if◌then◌else◌}
 use Rattle.std.specs.Int.{w32, w64, cast_signed, cast_unsigned}
 use Rattle.om_isa.specs.declared.op.Op.{Op}
-use Rattle.om_isa.specs.declared.op.Op.TheVariants.{Lui, Auipc, Jal, Jalr, Beq, Bne, Blt, Bge, Bltu, Bgeu, Lb, Lh, Lw, Lbu, Lhu, Sb, Sh, Sw, Addi, Slti, Sltiu, Xori, Ori, Andi, Slli, Srli, Srai, Add, Sub, Sll, Slt, Sltu, Xor, Srl, Sra, Or, And, Fence, FenceI, Ecall, Ebreak, Mul, Mulh, Mulhsu, Mulhu, Div, Divu, Rem, Remu}
+use Rattle.om_isa.specs.declared.op.Op.TheVariants as op
 use Rattle.om_step.specs.declared.action.Action.{Action}
 use Rattle.om_step.specs.declared.action.Action.TheVariants.{Go, Load, Store, Ask, Halt}
 use Rattle.om_step.specs.declared.cause.Cause.TheVariants.{Misaligned, Break}
@@ -70,52 +70,52 @@ stores count value address = Store (address % 2 ^ 32) count value
 
 -- what each instruction does, where a and b are the contents of rs1 and rs2
 abbrev pub action_of : Op → (rd a b imm pc : ℕ) → Action
-action_of Lui rd a b imm pc = writes rd imm pc
-action_of Auipc rd a b imm pc = writes rd (pc + imm) pc
-action_of Jal rd a b imm pc = jumps rd ((pc + imm) % 2 ^ 32) pc
-action_of Jalr rd a b imm pc = jumps rd ((a + imm) % 2 ^ 32 / 2 * 2) pc
-action_of Beq rd a b imm pc = branches (nat_eq a b) ((pc + imm) % 2 ^ 32) pc
-action_of Bne rd a b imm pc = branches (not (nat_eq a b)) ((pc + imm) % 2 ^ 32) pc
-action_of Blt rd a b imm pc = branches (int_lt (signed a) (signed b)) ((pc + imm) % 2 ^ 32) pc
-action_of Bge rd a b imm pc = branches (not (int_lt (signed a) (signed b))) ((pc + imm) % 2 ^ 32) pc
-action_of Bltu rd a b imm pc = branches (nat_lt a b) ((pc + imm) % 2 ^ 32) pc
-action_of Bgeu rd a b imm pc = branches (not (nat_lt a b)) ((pc + imm) % 2 ^ 32) pc
-action_of Lb rd a b imm pc = loads rd 1 true (a + imm)
-action_of Lh rd a b imm pc = loads rd 2 true (a + imm)
-action_of Lw rd a b imm pc = loads rd 4 false (a + imm)
-action_of Lbu rd a b imm pc = loads rd 1 false (a + imm)
-action_of Lhu rd a b imm pc = loads rd 2 false (a + imm)
-action_of Sb rd a b imm pc = stores 1 b (a + imm)
-action_of Sh rd a b imm pc = stores 2 b (a + imm)
-action_of Sw rd a b imm pc = stores 4 b (a + imm)
-action_of Addi rd a b imm pc = writes rd (a + imm) pc
-action_of Slti rd a b imm pc = writes rd (bit (int_lt (signed a) (signed imm))) pc
-action_of Sltiu rd a b imm pc = writes rd (bit (nat_lt a imm)) pc
-action_of Xori rd a b imm pc = writes rd (bit_xor a imm) pc
-action_of Ori rd a b imm pc = writes rd (bit_or a imm) pc
-action_of Andi rd a b imm pc = writes rd (bit_and a imm) pc
-action_of Slli rd a b imm pc = writes rd (a * 2 ^ (imm % 32)) pc
-action_of Srli rd a b imm pc = writes rd (a / 2 ^ (imm % 32)) pc
-action_of Srai rd a b imm pc = writes rd (shifted a (imm % 32)) pc
-action_of Add rd a b imm pc = writes rd (a + b) pc
-action_of Sub rd a b imm pc = writes rd (a + 2 ^ 32 - b) pc
-action_of Sll rd a b imm pc = writes rd (a * 2 ^ (b % 32)) pc
-action_of Slt rd a b imm pc = writes rd (bit (int_lt (signed a) (signed b))) pc
-action_of Sltu rd a b imm pc = writes rd (bit (nat_lt a b)) pc
-action_of Xor rd a b imm pc = writes rd (bit_xor a b) pc
-action_of Srl rd a b imm pc = writes rd (a / 2 ^ (b % 32)) pc
-action_of Sra rd a b imm pc = writes rd (shifted a (b % 32)) pc
-action_of Or rd a b imm pc = writes rd (bit_or a b) pc
-action_of And rd a b imm pc = writes rd (bit_and a b) pc
-action_of Fence rd a b imm pc = writes 0 0 pc
-action_of FenceI rd a b imm pc = writes 0 0 pc
-action_of Ecall rd a b imm pc = Ask
-action_of Ebreak rd a b imm pc = Halt Break
-action_of Mul rd a b imm pc = writes rd (a * b) pc
-action_of Mulh rd a b imm pc = writes rd (high (signed a *ℤ signed b)) pc
-action_of Mulhsu rd a b imm pc = writes rd (high (signed a *ℤ pos b)) pc
-action_of Mulhu rd a b imm pc = writes rd (a * b / 2 ^ 32) pc
-action_of Div rd a b imm pc = writes rd (quotient a b) pc
-action_of Divu rd a b imm pc = writes rd (quotient_unsigned a b) pc
-action_of Rem rd a b imm pc = writes rd (remainder a b) pc
-action_of Remu rd a b imm pc = writes rd (remainder_unsigned a b) pc
+action_of op.Lui rd a b imm pc = writes rd imm pc
+action_of op.Auipc rd a b imm pc = writes rd (pc + imm) pc
+action_of op.Jal rd a b imm pc = jumps rd ((pc + imm) % 2 ^ 32) pc
+action_of op.Jalr rd a b imm pc = jumps rd ((a + imm) % 2 ^ 32 / 2 * 2) pc
+action_of op.Beq rd a b imm pc = branches (nat_eq a b) ((pc + imm) % 2 ^ 32) pc
+action_of op.Bne rd a b imm pc = branches (not (nat_eq a b)) ((pc + imm) % 2 ^ 32) pc
+action_of op.Blt rd a b imm pc = branches (int_lt (signed a) (signed b)) ((pc + imm) % 2 ^ 32) pc
+action_of op.Bge rd a b imm pc = branches (not (int_lt (signed a) (signed b))) ((pc + imm) % 2 ^ 32) pc
+action_of op.Bltu rd a b imm pc = branches (nat_lt a b) ((pc + imm) % 2 ^ 32) pc
+action_of op.Bgeu rd a b imm pc = branches (not (nat_lt a b)) ((pc + imm) % 2 ^ 32) pc
+action_of op.Lb rd a b imm pc = loads rd 1 true (a + imm)
+action_of op.Lh rd a b imm pc = loads rd 2 true (a + imm)
+action_of op.Lw rd a b imm pc = loads rd 4 false (a + imm)
+action_of op.Lbu rd a b imm pc = loads rd 1 false (a + imm)
+action_of op.Lhu rd a b imm pc = loads rd 2 false (a + imm)
+action_of op.Sb rd a b imm pc = stores 1 b (a + imm)
+action_of op.Sh rd a b imm pc = stores 2 b (a + imm)
+action_of op.Sw rd a b imm pc = stores 4 b (a + imm)
+action_of op.Addi rd a b imm pc = writes rd (a + imm) pc
+action_of op.Slti rd a b imm pc = writes rd (bit (int_lt (signed a) (signed imm))) pc
+action_of op.Sltiu rd a b imm pc = writes rd (bit (nat_lt a imm)) pc
+action_of op.Xori rd a b imm pc = writes rd (bit_xor a imm) pc
+action_of op.Ori rd a b imm pc = writes rd (bit_or a imm) pc
+action_of op.Andi rd a b imm pc = writes rd (bit_and a imm) pc
+action_of op.Slli rd a b imm pc = writes rd (a * 2 ^ (imm % 32)) pc
+action_of op.Srli rd a b imm pc = writes rd (a / 2 ^ (imm % 32)) pc
+action_of op.Srai rd a b imm pc = writes rd (shifted a (imm % 32)) pc
+action_of op.Add rd a b imm pc = writes rd (a + b) pc
+action_of op.Sub rd a b imm pc = writes rd (a + 2 ^ 32 - b) pc
+action_of op.Sll rd a b imm pc = writes rd (a * 2 ^ (b % 32)) pc
+action_of op.Slt rd a b imm pc = writes rd (bit (int_lt (signed a) (signed b))) pc
+action_of op.Sltu rd a b imm pc = writes rd (bit (nat_lt a b)) pc
+action_of op.Xor rd a b imm pc = writes rd (bit_xor a b) pc
+action_of op.Srl rd a b imm pc = writes rd (a / 2 ^ (b % 32)) pc
+action_of op.Sra rd a b imm pc = writes rd (shifted a (b % 32)) pc
+action_of op.Or rd a b imm pc = writes rd (bit_or a b) pc
+action_of op.And rd a b imm pc = writes rd (bit_and a b) pc
+action_of op.Fence rd a b imm pc = writes 0 0 pc
+action_of op.FenceI rd a b imm pc = writes 0 0 pc
+action_of op.Ecall rd a b imm pc = Ask
+action_of op.Ebreak rd a b imm pc = Halt Break
+action_of op.Mul rd a b imm pc = writes rd (a * b) pc
+action_of op.Mulh rd a b imm pc = writes rd (high (signed a *ℤ signed b)) pc
+action_of op.Mulhsu rd a b imm pc = writes rd (high (signed a *ℤ pos b)) pc
+action_of op.Mulhu rd a b imm pc = writes rd (a * b / 2 ^ 32) pc
+action_of op.Div rd a b imm pc = writes rd (quotient a b) pc
+action_of op.Divu rd a b imm pc = writes rd (quotient_unsigned a b) pc
+action_of op.Rem rd a b imm pc = writes rd (remainder a b) pc
+action_of op.Remu rd a b imm pc = writes rd (remainder_unsigned a b) pc

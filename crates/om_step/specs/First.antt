@@ -2,6 +2,7 @@
 use Rattle.std.specs.Prelude.{◌+◌, ◌-◌, false, nat_lt, List, [], ◌∷◌, ◌++◌, length, map, filter, replicate, slice_set}
 use Rattle.om_mem.specs.Contents.{Filled, contents_of, zeros}
 use Rattle.om_mem.specs.Pages.{page_count}
+use Rattle.om_mem.specs.Rights.{pf_r, pf_w}
 use Rattle.om_mem.specs.declared.region.Region.{Region}
 use Rattle.om_step.specs.State.{State, Standing}
 use Rattle.om_log.specs.declared.start.Start.{Start}
@@ -10,10 +11,10 @@ use Rattle.om_elf.specs.declared.elf.Elf.{Elf}
 
 -- stack and heap can be written and read, and hold zeros at first
 abbrev pub stack_of : Start → Filled
-stack_of start = zeros (record { low = start.stack_low; size = start.stack_size; rights = 6 })
+stack_of start = zeros (record { low = start.stack_low; size = start.stack_size; rights = pf_r + pf_w })
 
 abbrev pub heap_of : Start → Filled
-heap_of start = zeros (record { low = start.heap_low; size = start.heap_size; rights = 6 })
+heap_of start = zeros (record { low = start.heap_low; size = start.heap_size; rights = pf_r + pf_w })
 
 -- a segment in memory: the file's bytes, then zeros
 abbrev pub segment_of : Image → Filled

@@ -11,11 +11,11 @@ ghost use Rattle.om_step.specs.First.{filled_of, heap_of, regions_of, segment_of
 use om_base::{Items, NoMemory};
 use om_elf::Segment;
 use om_log::Start;
-use om_mem::{MapFault, Memory, Region, Regions, map_regions};
+use om_mem::{MapFault, Memory, PF_R, PF_W, Region, Regions, map_regions};
 use std::alloc::Global;
 
 /// The rights of stack and heap: to write and to read.
-const STACK_AND_HEAP: u8 = 6;
+const STACK_AND_HEAP: u8 = PF_R + PF_W;
 
 /// The region of a segment.
 fn region_of(segment: &Segment<'_>) -> Region

@@ -2,11 +2,13 @@
 
 ghost use Rattle.std.specs.Prelude.{◌≡◌};
 ghost use Rattle.om_eval.specs.Meaning.{owned};
+ghost use Rattle.om_names.specs.Known.{told_by};
 ghost use Rattle.om_view.specs.Row as spec;
 ghost use Rattle.om_view.specs.Row.{row_of};
 
 use om_base::Name;
 use om_eval::{ColumnId, RowView, Value};
+use om_line::LineRow;
 use om_names::Debug;
 use om_step::Machine;
 
@@ -41,8 +43,18 @@ fn text(name: Option<Name<'_>>) -> Value<'_>
     }
 }
 
+/// The line of a row of a line table, if it has one.
+fn line_of(row: Option<LineRow>) -> Option<u32>
+    ensures { result ≡ spec.line_of row }
+{
+    match row {
+        Some(row) if row.line != 0 => Some(row.line),
+        _ => None,
+    }
+}
+
 impl RowView for View<'_> {
-    ghost answers = { λ view. row_of view.debug.now view.machine.now.state view.step };
+    ghost answers = { λ view. row_of (told_by view.debug.now) view.machine.now.state view.step };
 
     #[inline(always)] // so that its value goes through no memory
     fn cell(&self, column: ColumnId) -> Value<'_> {
@@ -52,8 +64,10 @@ impl RowView for View<'_> {
             ColumnId::Insn => value(self.machine.memory().number(self.machine.pc(), 4)),
             ColumnId::Reg(number) => value(Some(self.machine.reg(number))),
             ColumnId::Func => text(self.debug.func_at(self.machine.pc())),
+            ColumnId::File => text(self.debug.file_at(self.machine.pc())),
+            ColumnId::Line => value(line_of(self.debug.line_at(self.machine.pc()))),
             // Nothing of these is read.
-            ColumnId::File | ColumnId::Line | ColumnId::Var(_) => Value::Null,
+            ColumnId::Var(_) => Value::Null,
         }
     }
 

@@ -1,12 +1,12 @@
-use Rattle.std.proofs.Common.{◌≡◌, ap, inl, inr, Ok, Err}
-use Rattle.std.specs.Prelude.{Result}
+use Rattle.std.proofs.Common.{◌≡◌, ap, inl, inr, Ok, Err, Some, None}
+use Rattle.std.specs.Prelude.{Option, Result}
 use Rattle.om_log.specs.declared.fault.LogFault.{LogFault}
 use Rattle.om_log.specs.declared.log.Log.{Log}
 use Rattle.om_names.specs.Information.{Information}
 use Rattle.om_names.specs.declared.fault.NamesFault.{NamesFault}
-use Rattle.om_parse.specs.declared.fault.ParseFault.{ParseFault}
-use Rattle.om_parse.specs.declared.tree.Query.{Query}
-use Rattle.om_command.specs.Readings.{IsDebugReading, IsLogReading, IsQueryReading}
+use Rattle.om_type.specs.declared.typed.Typed.{Typed}
+use Rattle.om_command.proofs.QueryLemmas.{one_query_of}
+use Rattle.om_command.specs.Readings.{IsDebugReading, IsLogReading, IsQueryReading, variables}
 use Rattle.om_command.proofs.laws.one_meaning.Goals as goal
 
 pub returns-clause-debug : goal.returns-clause-debug
@@ -42,9 +42,12 @@ returns-clause-log c =
 pub returns-clause-query : goal.returns-clause-query
 returns-clause-query c =
     λ text.
-    elim (c.tree_or_refusal.ensures text) as (λ _. (read : Result Query ParseFault) × IsQueryReading text read) [
-      | inl query ↦ (Ok query.0, query.1)
-      | inr fault ↦ (Err fault.0, fault.1)
+    elim (c.tree_or_refusal.ensures text) as (λ _. (read : Option Typed) × IsQueryReading variables text read) [
+      | inl query ↦ elim (c.typing_or_unbuilt.ensures variables query.0) as (λ _. (read : Option Typed) × IsQueryReading variables text read) [
+        | inl typed ↦ (Some typed.0, (query.0, query.1, typed.1))
+        | inr unbuilt ↦ (None, inl (query.0, query.1, unbuilt))
+      ]
+      | inr fault ↦ (None, inr (fault.0, fault.1))
     ]
 
 pub returns-clause-one_log : goal.returns-clause-one_log
@@ -63,14 +66,9 @@ returns-clause-one_log c =
 
 pub returns-clause-one_query : goal.returns-clause-one_query
 returns-clause-one_query c =
-    λ text a b.
-    elim a as (λ r. IsQueryReading text r → IsQueryReading text b → r ≡ b) [
-      | Ok query ↦ elim b as (λ r. IsQueryReading text (Ok query) → IsQueryReading text r → ◌≡◌ {A = Result Query ParseFault} (Ok query) r) [
-        | Ok other ↦ λ is too. ap (λ q. Ok q) (c.one_tree.ensures.of_text text query other is too)
-        | Err fault ↦ λ is too. absurd (c.never_both.ensures.of_text text query fault is too)
-      ]
-      | Err fault ↦ elim b as (λ r. IsQueryReading text (Err fault) → IsQueryReading text r → ◌≡◌ {A = Result Query ParseFault} (Err fault) r) [
-        | Ok query ↦ λ is too. absurd (c.never_both.ensures.of_text text query fault too is)
-        | Err other ↦ λ is too. ap (λ f. Err f) (c.one_refusal.ensures.of_text text fault other is too)
-      ]
-    ]
+    one_query_of (record {
+      tree = c.one_tree.ensures.of_text;
+      either = c.never_both.ensures.of_text;
+      typing = c.one_typing.ensures;
+      apart = c.never_both-2.ensures;
+    }) variables

@@ -6,5 +6,11 @@ returns-in-Info g c = rw (c.in-Info.is, ← c.die_told.ensures) c.put_told.ensur
 pub returns-in-Ranges : goal.returns-in-Ranges
 returns-in-Ranges g c = rw (c.in-Ranges.is, ← c.die_told-in-Ranges.ensures) c.put_told-in-Ranges.ensures
 
+pub returns-in-Lines : goal.returns-in-Lines
+returns-in-Lines g c = rw (c.in-Lines.is, ← c.line_told.ensures) c.put_told-in-Lines.ensures
+
 pub returns-in-NoMemory : goal.returns-in-NoMemory
 returns-in-NoMemory g c = rw c.in-NoMemory.is c.put_all.ensures
+
+pub returns-in-TypeLoop : goal.returns-in-TypeLoop
+returns-in-TypeLoop g c = rw (c.in-TypeLoop.is, ← c.type_loop_told.ensures) c.put_told-in-TypeLoop.ensures

@@ -1,4 +1,5 @@
 use Rattle.std.proofs.Common.{◌≡◌, ◌-◌, ◌≤◌, None}
+use Rattle.om_names.specs.Known.{told_by}
 use Rattle.om_run.specs.Departure.{first_departure}
 use Rattle.om_run.specs.Run.{below, end_of}
 use Rattle.om_command.specs.Answer.{kept_of}
@@ -12,7 +13,7 @@ invariant-loop-rows l = record {
   first : l.replay.first ≡ l.fn.replay.first;
   within : l.replay.step ≤ (end_of l.fn.replay.entries).step;
   going : first_departure l.fn.replay.entries l.fn.replay.first (below l.replay.step) ≡ None;
-  kept : l.rows ≡ kept_of l.question (rows_before l.debug l.fn.replay.entries l.fn.replay.first l.replay.step);
+  kept : l.rows ≡ kept_of l.condition l.outputs (rows_before (told_by l.debug) l.fn.replay.entries l.fn.replay.first l.replay.step);
   metered : l.meter ≡ l.replay.step;
 }
 

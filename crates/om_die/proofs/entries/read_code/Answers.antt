@@ -1,5 +1,5 @@
 use Rattle.std.proofs.lemmas.List.{take_rest}
-use Rattle.om_die.proofs.EntryLaws.{code_there, no_code}
+use Rattle.om_die.proofs.DieLaws.{code_there, no_code}
 use Rattle.om_die.proofs.entries.read_code.Goals as goal
 
 pub returns-in-Ok : goal.returns-in-Ok

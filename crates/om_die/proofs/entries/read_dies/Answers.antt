@@ -1,8 +1,8 @@
 use Rattle.std.proofs.Common.{refl}
 use Rattle.std.proofs.lemmas.Result.{err_from_is_err_and}
-use Rattle.om_die.specs.Index.{find_in}
+use Rattle.om_die.specs.AbbreviationIndex.{find_in}
 use Rattle.om_die.specs.Steps.{item_of}
-use Rattle.om_die.proofs.EntryLaws.{starts, goes_on, shorter, some_left, stops_or}
+use Rattle.om_die.proofs.DieLaws.{starts, goes_on, shorter, some_left, stops_or}
 use Rattle.om_die.proofs.entries.read_dies.Goals as goal
 
 pub loop-rest-init : goal.loop-rest-init

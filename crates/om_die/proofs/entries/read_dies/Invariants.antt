@@ -1,6 +1,6 @@
 use Rattle.std.proofs.Common.{length}
-use Rattle.om_die.specs.Index.{find_in}
-use Rattle.om_die.proofs.EntryLaws.{IsAt}
+use Rattle.om_die.specs.AbbreviationIndex.{find_in}
+use Rattle.om_die.proofs.DieLaws.{IsAt}
 use Rattle.om_die.proofs.entries.read_dies.Given as goal
 
 abbrev pub invariant-loop-rest : goal.invariant-loop-rest

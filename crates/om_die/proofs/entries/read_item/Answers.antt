@@ -1,6 +1,6 @@
 use Rattle.std.proofs.Common.{inl, inr, sym, refl}
-use Rattle.om_die.specs.Index.{find_in}
-use Rattle.om_die.proofs.EntryLaws.{close_first, entry_first, refused_lack, refused_many, refused_shape}
+use Rattle.om_die.specs.AbbreviationIndex.{find_in}
+use Rattle.om_die.proofs.DieLaws.{close_first, entry_first, refused_lack, refused_many, refused_shape}
 use Rattle.om_die.proofs.entries.read_item.Goals as goal
 
 pub returns-in_default-clause-fault : goal.returns-in_default-clause-fault

@@ -1,5 +1,5 @@
 use Rattle.std.proofs.Common.{sym, ◌∙◌}
-use Rattle.om_log.specs.Reading.{chunk_field}
+use Rattle.om_log.specs.EntryFields.{chunk_field}
 use Rattle.om_log.proofs.FieldLaws.{behind_more, behind_none, behind_done}
 use Rattle.om_log.proofs.entry_fields.behind_chunks.Goals as goal
 

@@ -1,6 +1,6 @@
 use Rattle.std.proofs.Common.{◌≡◌}
 use Rattle.om_log.specs.Fields.{behind}
-use Rattle.om_log.specs.Reading.{chunk_field}
+use Rattle.om_log.specs.EntryFields.{chunk_field}
 use Rattle.om_log.proofs.entry_fields.behind_chunks.Given as goal
 
 abbrev pub invariant-loop-left : goal.invariant-loop-left

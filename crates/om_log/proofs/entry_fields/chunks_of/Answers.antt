@@ -1,5 +1,5 @@
 use Rattle.std.proofs.Common.{arith, refl}
-use Rattle.om_log.specs.Reading.{chunks_field}
+use Rattle.om_log.specs.EntryFields.{chunks_field}
 use Rattle.om_log.proofs.FieldLaws.{IsBytes}
 use Rattle.om_log.proofs.EntryLaws.{SkipsTo, skipped, IsBytes-number}
 use Rattle.om_log.proofs.entry_fields.chunks_of.Goals as goal

@@ -1,7 +1,7 @@
 use Rattle.std.proofs.Common.{◌≡◌, ◌++◌, drop}
 use Rattle.std.specs.List.{flat_map}
 use Rattle.om_log.specs.LittleEndian.{le_bytes}
-use Rattle.om_log.specs.Appending.{IsFront}
+use Rattle.om_log.specs.Fronts.{IsFront}
 use Rattle.om_log.proofs.spelling.put_args.Given as goal
 
 abbrev pub invariant-loop-arg : goal.invariant-loop-arg

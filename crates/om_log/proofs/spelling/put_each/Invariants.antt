@@ -1,7 +1,7 @@
 use Rattle.std.proofs.Common.{◌≡◌, ◌++◌, length}
 use Rattle.std.specs.List.{AllByRecursion, flat_map}
 use Rattle.om_log.specs.Grammar.{chunk_spelling}
-use Rattle.om_log.specs.Appending.{IsFront}
+use Rattle.om_log.specs.Fronts.{IsFront}
 use Rattle.om_log.specs.Writing.{IsShort}
 use Rattle.om_log.proofs.spelling.put_each.Given as goal
 

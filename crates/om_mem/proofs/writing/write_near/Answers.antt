@@ -2,17 +2,17 @@ use Rattle.std.proofs.Common.{arith, refl}
 use Rattle.om_mem.proofs.WriteLemmas.{outside-spot, outside-refused, stored-number}
 use Rattle.om_mem.proofs.writing.write_near.Goals as goal
 
-pub returns-then-near-ne2-clause-may : goal.returns-then-near-ne2-clause-may
-returns-then-near-ne2-clause-may c =
+pub returns-then-near-ne-PF_W-clause-may : goal.returns-then-near-ne-PF_W-clause-may
+returns-then-near-ne-PF_W-clause-may c =
     let low = c.requires.low in
     let high = c.requires.high in
-    rw (outside-refused _ _ c.requires.near c.args.address c.args.count (omega arith) low high c.if-near-ne2.true) refl
+    rw (outside-refused _ _ c.requires.near c.args.address c.args.count (omega arith) low high c.if-near-ne-PF_W.true) refl
 
 pub returns-clause-may : goal.returns-clause-may
 returns-clause-may c =
     let low = c.requires.low in
     let high = c.requires.high in
-    rw (outside-spot _ _ c.requires.near c.args.address c.args.count low high c.if-near-ne2.false) refl
+    rw (outside-spot _ _ c.requires.near c.args.address c.args.count low high c.if-near-ne-PF_W.false) refl
 
 pub returns-clause-stored : goal.returns-clause-stored
 returns-clause-stored c = λ _.

@@ -1,7 +1,7 @@
-use Rattle.std.proofs.Common.{◌≡◌, ◌++◌, length, ap, sym, ◌∙◌, arith}
+use Rattle.std.proofs.Common.{◌≡◌, [], length, ap, arith}
 use Rattle.om_die.specs.Units.{dies_of_units}
-use Rattle.om_names.specs.Walk.{claims_in_unit, count_in_unit}
-use Rattle.om_names.proofs.WalkLemmas.{dies_more, dies_within, flat_more, sum_more, unit_small}
+use Rattle.om_names.specs.EntryByEntry.{count_in_unit, named_in_unit}
+use Rattle.om_names.proofs.EntryByEntryLemmas.{dies_more, dies_within, made_more, sum_more, unit_small}
 use Rattle.om_names.proofs.functions.read_functions.Goals as goal
 
 pub add_unit-requires : goal.add_unit-requires
@@ -12,8 +12,10 @@ add_unit-requires c =
 
 pub loop-unit-preserved : goal.loop-unit-preserved
 loop-unit-preserved c = record {
-  claims = c.in_ok-add_unit.ensures.claims ∙ ap (λ claims. claims ++ claims_in_unit c.args.names.now c.args.section.now c.unit-item.result) c.loop-unit.invariant.claims
-      ∙ sym (flat_more (claims_in_unit c.args.names.now c.args.section.now) c.as_slice-unit-items.result.now c.loop-unit.unit-index c.unit-item.result c.unit-item.result c.loop-unit-test.true c.unit-item.is);
+  claims = made_more _ (named_in_unit c.args.names.now c.args.section.now) c.as_slice-unit-items.result.now c.loop-unit.unit-index c.unit-item.result c.unit-item.result [] c.loop-unit.functions.claims _ c.loop-unit-test.true
+      c.unit-item.is c.loop-unit.invariant.claims c.in_ok-add_unit.ensures.claims;
+  names = made_more _ (named_in_unit c.args.names.now c.args.section.now) c.as_slice-unit-items.result.now c.loop-unit.unit-index c.unit-item.result c.unit-item.result [] c.loop-unit.functions.names _ c.loop-unit-test.true
+      c.unit-item.is c.loop-unit.invariant.names c.in_ok-add_unit.ensures.names;
   count = omega (
     arith,
     c.in_ok-add_unit.ensures.count,

@@ -1,8 +1,8 @@
 use Rattle.std.proofs.Common.{map, ap, sym, ◌∙◌}
 use Rattle.om_base.specs.Firsts.{first_of}
 use Rattle.om_names.specs.Ranges.{range_fault}
-use Rattle.om_names.specs.Walk.{entry_in}
-use Rattle.om_names.proofs.WalkLemmas.{first_found, first_more, first_none}
+use Rattle.om_names.specs.EntryByEntry.{entry_in}
+use Rattle.om_names.proofs.EntryByEntryLemmas.{first_found, first_more, first_none}
 use Rattle.om_names.proofs.judging.fault_in.Goals as goal
 
 pub returns-in-Some : goal.returns-in-Some

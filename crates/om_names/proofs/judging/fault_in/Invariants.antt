@@ -1,8 +1,8 @@
 use Rattle.std.proofs.Common.{◌≡◌, ℕ, List, None, map, take}
 use Rattle.om_base.specs.Firsts.{first_of}
-use Rattle.om_names.specs.Ends.{AreEnds}
+use Rattle.om_names.specs.ListEnds.{AreEnds}
 use Rattle.om_names.specs.Ranges.{range_fault}
-use Rattle.om_names.specs.Walk.{entry_in}
+use Rattle.om_names.specs.EntryByEntry.{entry_in}
 use Rattle.om_names.proofs.judging.fault_in.Given as goal
 
 abbrev pub invariant-loop-die : goal.invariant-loop-die

@@ -1,7 +1,7 @@
 use Rattle.std.proofs.Common.{map, ap, sym, ◌∙◌}
 use Rattle.om_base.specs.Firsts.{first_of}
-use Rattle.om_names.specs.Walk.{fault_in}
-use Rattle.om_names.proofs.WalkLemmas.{first_by_units, first_found, first_more, first_none}
+use Rattle.om_names.specs.EntryByEntry.{fault_in}
+use Rattle.om_names.proofs.EntryByEntryLemmas.{first_by_units, first_found, first_more, first_none}
 use Rattle.om_names.proofs.judging.first_fault.Goals as goal
 
 pub returns-in-Some : goal.returns-in-Some

@@ -1,7 +1,7 @@
 use Rattle.std.proofs.Common.{◌≡◌, ℕ, List, None, map, take}
 use Rattle.om_base.specs.Firsts.{first_of}
-use Rattle.om_names.specs.Ends.{AreEnds}
-use Rattle.om_names.specs.Walk.{fault_in}
+use Rattle.om_names.specs.ListEnds.{AreEnds}
+use Rattle.om_names.specs.EntryByEntry.{fault_in}
 use Rattle.om_names.proofs.judging.first_fault.Given as goal
 
 abbrev pub invariant-loop-unit : goal.invariant-loop-unit

@@ -1,6 +1,6 @@
 use Rattle.std.proofs.Common.{sym, ◌∙◌}
 use Rattle.om_names.specs.Ranges.{base_of}
-use Rattle.om_names.proofs.WalkLemmas.{list_ended, list_endless, no_list}
+use Rattle.om_names.proofs.EntryByEntryLemmas.{list_ended, list_endless, no_list}
 use Rattle.om_names.proofs.judging.range_fault.Goals as goal
 
 pub returns-in_default : goal.returns-in_default

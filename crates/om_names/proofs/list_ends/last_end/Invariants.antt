@@ -1,5 +1,5 @@
 use Rattle.std.proofs.Common.{◌+◌, ◌*◌}
-use Rattle.om_names.specs.Ends.{IsLastBelow}
+use Rattle.om_names.specs.ListEnds.{IsLastBelow}
 use Rattle.om_names.proofs.list_ends.last_end.Given as goal
 
 abbrev pub invariant-loop-entry : goal.invariant-loop-entry

@@ -1,4 +1,4 @@
-use Rattle.om_names.specs.Ends.{AreLast}
+use Rattle.om_names.specs.ListEnds.{AreLast}
 use Rattle.om_names.proofs.list_ends.list_ends.Given as goal
 
 abbrev pub invariant-loop-remainder : goal.invariant-loop-remainder

@@ -1,6 +1,6 @@
 use Rattle.std.proofs.Common.{◌≡◌, ◌<◌, ◌++◌, None, ap, sym, ◌∙◌, arith}
 use Rattle.std.proofs.lemmas.Result.{err_from_is_err_and}
-use Rattle.om_record.specs.Walk.{IsAt, moment, entries_before}
+use Rattle.om_record.specs.Progress.{IsAt, moment, entries_before}
 use Rattle.om_record.proofs.RunLemmas.{at_start, at_marked, at_walked, at_reached, at_served_by, mark_at}
 use Rattle.om_record.proofs.MadeLemmas.{call_full, end_known, end_stop, goes_on, log_finish, made_finish, mark_full}
 use Rattle.om_step.specs.State.{Standing}

@@ -1,5 +1,5 @@
 use Rattle.std.proofs.Common.{◌-◌}
-use Rattle.om_record.specs.Walk.{IsAt, moment, entries_before}
+use Rattle.om_record.specs.Progress.{IsAt, moment, entries_before}
 use Rattle.om_record.proofs.making.record_run.Given as goal
 
 abbrev pub invariant-loop-writer : goal.invariant-loop-writer

@@ -5,7 +5,7 @@ use Rattle.om_log.specs.declared.entry.Entry.{Entry}
 use Rattle.om_run.specs.Departure.{departs_at_marks}
 use Rattle.om_run.specs.declared.departure.Departure.{Departure}
 use Rattle.om_run.specs.Run.{Marked, marks_of}
-use Rattle.om_run.proofs.WalkLemmas.{drop_item, marks_next, stand_behind_mark, unmarked_by_late, unmarked_unless}
+use Rattle.om_run.proofs.PositionLemmas.{drop_item, marks_next, stand_behind_mark, unmarked_by_late, unmarked_unless}
 use Rattle.om_run.proofs.judge.judge_marks.Goals as goal
 
 pub returns-in_default : goal.returns-in_default

@@ -3,7 +3,7 @@ use Rattle.om_log.specs.Grammar.{AreLawful}
 use Rattle.om_log.specs.declared.entry.Entry.{Entry}
 use Rattle.std.proofs.Common.{List}
 use Rattle.om_run.specs.Run.{due}
-use Rattle.om_run.proofs.WalkLemmas.{drop_item, due_behind, none_at, stand_behind}
+use Rattle.om_run.proofs.PositionLemmas.{drop_item, due_behind, none_at, stand_behind}
 use Rattle.om_run.proofs.logged.first_call.Goals as goal
 
 pub returns-then-step-at : goal.returns-then-step-at

@@ -1,5 +1,5 @@
 use Rattle.std.proofs.Common.{◌≡◌, drop}
-use Rattle.om_run.specs.Walk.{from_step}
+use Rattle.om_run.specs.Position.{from_step}
 use Rattle.om_run.proofs.logged.skip_to.Given as goal
 
 abbrev pub invariant-loop-entry : goal.invariant-loop-entry

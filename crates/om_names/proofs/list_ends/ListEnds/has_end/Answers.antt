@@ -1,5 +1,5 @@
 use Rattle.std.proofs.Common.{None, Some}
-use Rattle.om_names.proofs.EndLemmas.{kept_end}
+use Rattle.om_names.proofs.ListEndLemmas.{kept_end}
 use Rattle.om_names.proofs.list_ends.ListEnds.has_end.Goals as goal
 
 pub returns-in-Some-last : goal.returns-in-Some-last

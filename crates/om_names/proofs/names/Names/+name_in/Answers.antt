@@ -1,29 +1,29 @@
 use Rattle.std.proofs.Common.{◌-◌, Some, ap, sym, ◌∙◌}
 use Rattle.std.specs.Option.{option_and_then}
-use Rattle.om_names.specs.Names.{find_in, name_by}
+use Rattle.om_names.specs.Names.{find_in, name_told, reached_by}
 use Rattle.om_names.proofs.NameLemmas.{next_told, none_told, own_told}
 use Rattle.om_names.proofs.names.Names.+name_in.Goals as goal
 
 pub returns-in-Some : goal.returns-in-Some
-returns-in-Some t c = ap (λ name. Some name) (c.of.ensures ∙ c.bytes.ensures) ∙ own_told c.args.links (find_in c.args.self.now) c.args.told.now c.in-Some.name c.in-Some.is
+returns-in-Some t c = ap (λ name. Some name) (c.of.ensures ∙ c.bytes.ensures) ∙ own_told name_told c.args.links (find_in c.args.self.now) c.args.told.now c.in-Some.name c.in-Some.is
 
 pub returns-then-links-eq0 : goal.returns-then-links-eq0
-returns-then-links-eq0 t c = none_told c.args.links (find_in c.args.self.now) c.args.told.now c.if-links-eq0.true c.in_default.is
+returns-then-links-eq0 t c = none_told name_told c.args.links (find_in c.args.self.now) c.args.told.now c.if-links-eq0.true c.in_default.is
 
 pub returns-in_default-link : goal.returns-in_default-link
 returns-in_default-link t c =
-    ap (λ link. option_and_then (name_by (c.args.links - 1) (find_in c.args.self.now)) (option_and_then (find_in c.args.self.now) link)) (sym c.in_default-link.is)
-    ∙ next_told c.args.links (find_in c.args.self.now) c.args.told.now c.if-links-eq0.false c.in_default.is
+    ap (λ link. option_and_then (reached_by name_told (c.args.links - 1) (find_in c.args.self.now)) (option_and_then (find_in c.args.self.now) link)) (sym c.in_default-link.is)
+    ∙ next_told name_told c.args.links (find_in c.args.self.now) c.args.told.now c.if-links-eq0.false c.in_default.is
 
 pub returns-in_default-get : goal.returns-in_default-get
 returns-in_default-get t c =
-    ap (option_and_then (name_by (c.args.links - 1) (find_in c.args.self.now))) c.in_default-get.ensures.value
-    ∙ ap (λ link. option_and_then (name_by (c.args.links - 1) (find_in c.args.self.now)) (option_and_then (find_in c.args.self.now) link)) (sym c.in-Some-link.is)
-    ∙ next_told c.args.links (find_in c.args.self.now) c.args.told.now c.if-links-eq0.false c.in_default.is
+    ap (option_and_then (reached_by name_told (c.args.links - 1) (find_in c.args.self.now))) c.in_default-get.ensures.value
+    ∙ ap (λ link. option_and_then (reached_by name_told (c.args.links - 1) (find_in c.args.self.now)) (option_and_then (find_in c.args.self.now) link)) (sym c.in-Some-link.is)
+    ∙ next_told name_told c.args.links (find_in c.args.self.now) c.args.told.now c.if-links-eq0.false c.in_default.is
 
 pub returns : goal.returns
 returns t c =
     c.name_in.ensures
-    ∙ ap (option_and_then (name_by (c.args.links - 1) (find_in c.args.self.now))) c.in-Some-get.ensures.value
-    ∙ ap (λ link. option_and_then (name_by (c.args.links - 1) (find_in c.args.self.now)) (option_and_then (find_in c.args.self.now) link)) (sym c.in-Some-link.is)
-    ∙ next_told c.args.links (find_in c.args.self.now) c.args.told.now c.if-links-eq0.false c.in_default.is
+    ∙ ap (option_and_then (reached_by name_told (c.args.links - 1) (find_in c.args.self.now))) c.in-Some-get.ensures.value
+    ∙ ap (λ link. option_and_then (reached_by name_told (c.args.links - 1) (find_in c.args.self.now)) (option_and_then (find_in c.args.self.now) link)) (sym c.in-Some-link.is)
+    ∙ next_told name_told c.args.links (find_in c.args.self.now) c.args.told.now c.if-links-eq0.false c.in_default.is

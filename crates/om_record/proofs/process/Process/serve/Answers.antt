@@ -1,8 +1,8 @@
 use Rattle.std.proofs.Common.{arith, ap}
 use Rattle.om_record.specs.Kernel.{Answer}
-use Rattle.om_record.specs.Walk.{moment}
+use Rattle.om_record.specs.Progress.{moment}
 use Rattle.om_record.proofs.TellingLemmas.{call_short, call_stands}
-use Rattle.om_record.proofs.WalkLemmas.{served_is, served_step}
+use Rattle.om_record.proofs.ProgressLemmas.{served_is, served_step}
 use Rattle.om_record.proofs.process.Process.serve.Goals as goal
 
 pub push_entry-requires : goal.push_entry-requires

@@ -1,6 +1,6 @@
 use Rattle.std.proofs.Common.{◌≡◌, ◌+◌, ◌-◌, arith}
-use Rattle.om_record.specs.Walk.{GoesOn}
-use Rattle.om_record.proofs.WalkLemmas.{walk_more}
+use Rattle.om_record.specs.Progress.{GoesOn}
+use Rattle.om_record.proofs.ProgressLemmas.{walk_more}
 use Rattle.om_step.specs.Step.{outcome}
 use Rattle.om_record.proofs.process.Process.walk.Goals as goal
 

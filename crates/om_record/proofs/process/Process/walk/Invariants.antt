@@ -1,5 +1,5 @@
 use Rattle.std.proofs.Common.{◌≡◌, ◌≤◌, ◌-◌}
-use Rattle.om_record.specs.Walk.{IsWalk}
+use Rattle.om_record.specs.Progress.{IsWalk}
 use Rattle.om_record.proofs.process.Process.walk.Given as goal
 
 abbrev pub invariant-loop-self : goal.invariant-loop-self

@@ -1,7 +1,7 @@
 use Rattle.std.proofs.Common.{◌<◌, sym, ◌∙◌, refl, None}
 use Rattle.std.proofs.lemmas.Result.{err_from_is_err_and}
-use Rattle.om_run.specs.Walk.{end_of_quiet}
-use Rattle.om_run.proofs.WalkLemmas.{lawful_rest, made_next, placed_next, told_verdict, quiet_marks, quiet_none, quiet_stays, quiet_within}
+use Rattle.om_run.specs.Position.{end_of_quiet}
+use Rattle.om_run.proofs.PositionLemmas.{lawful_rest, made_next, placed_next, told_verdict, quiet_marks, quiet_none, quiet_stays, quiet_within}
 use Rattle.om_run.proofs.replay.Replay.advance.Goals as goal
 
 pub returns-in_err-touched-clause-verdict : goal.returns-in_err-touched-clause-verdict

@@ -1,6 +1,6 @@
 use Rattle.std.proofs.Common.{sym, ◌∙◌, refl}
 use Rattle.std.proofs.lemmas.Result.{err_from_is_err_and}
-use Rattle.om_run.proofs.WalkLemmas.{goes_unhalted, lawful_rest, made_next, placed_next, told_verdict, verdict_halted}
+use Rattle.om_run.proofs.PositionLemmas.{goes_unhalted, lawful_rest, made_next, placed_next, told_verdict, verdict_halted}
 use Rattle.om_run.proofs.replay.Replay.advance_by_entry.Goals as goal
 
 pub halt_before-requires : goal.halt_before-requires

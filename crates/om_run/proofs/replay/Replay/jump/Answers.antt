@@ -4,7 +4,7 @@ use Rattle.om_step.specs.First.{first_state}
 use Rattle.om_step.specs.State.{State}
 use Rattle.om_run.specs.Replay.{Place, here}
 use Rattle.om_run.specs.Run.{end_of, state_at}
-use Rattle.om_run.proofs.WalkLemmas.{placed_jump}
+use Rattle.om_run.proofs.PositionLemmas.{placed_jump}
 use Rattle.om_run.proofs.replay.Replay.jump.Goals as goal
 
 pub invariant_of-self : goal.invariant_of-self

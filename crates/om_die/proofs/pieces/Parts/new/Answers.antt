@@ -1,8 +1,0 @@
-use Rattle.std.proofs.Common.{rules}
-use Rattle.om_die.specs.Pieces.{skips_in}
-use Rattle.om_die.specs.Units.{dies_in, units_in}
-use Rattle.om_die.proofs.pieces.Parts.new.Goals as goal
-
-pub returns : goal.returns
-unfolding dies_in skips_in units_in
-returns c = search rules

@@ -1,0 +1,7 @@
+pub mod SomesLemmas
+pub mod ConjunctLemmas
+pub mod SettlesLemmas
+pub mod ColumnLemmas
+pub mod TypingLemmas
+pub mod ExistingLemmas
+pub mod SplittingLemmas

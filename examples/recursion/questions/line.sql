@@ -1,0 +1,1 @@
+SELECT step, line, file FROM states WHERE line = 6
