@@ -10,7 +10,7 @@ mod quotes;
 mod table;
 mod widths;
 
-pub use escaping::escape;
+pub use escaping::{escape, escape_into};
 pub use fault::TableFault;
 pub use printing::print_table;
 pub use table::{Style, Table};
