@@ -1,4 +1,4 @@
-//! Tests of executables and their debugging information: the crates `om_claims`, `om_elf`, `om_die`, `om_line`, `om_loc`, `om_names`, `om_image` and `om_view`.
+//! Tests of executables and their debugging information: the crates `om_claims`, `om_elf`, `om_die`, `om_line`, `om_loc`, `om_names`, `om_image`, `om_info` and `om_view`.
 #![tactic(auto)]
 
 #[cfg(test)]
@@ -11,6 +11,8 @@ mod die_forms;
 mod elf;
 #[cfg(test)]
 mod image;
+#[cfg(test)]
+mod info;
 #[cfg(test)]
 mod line_tables;
 #[cfg(test)]
