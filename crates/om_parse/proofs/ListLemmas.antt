@@ -11,7 +11,7 @@ use Rattle.om_parse.specs.Grammar.{Tokens, all_of}
 use Rattle.om_parse.specs.declared.tree.Item.{Item}
 use Rattle.om_parse.specs.declared.tree.ExprTree.TheVariants as e
 use Rattle.om_parse.specs.declared.tree.CondTree.TheVariants as c
-use Rattle.om_parse.specs.Reading.{column, column_named, operator, operator_at, operator_in, numeral, numeral_of, item, one_test, joined, Step, Parser, go_on, and_then, ◌>>=◌, pure, one, chosen, is, begins, passed, at_most, tails, Reads}
+use Rattle.om_parse.specs.Reading.{column, column_named, identifier_in, operator, operator_at, operator_in, numeral, numeral_of, item, one_test, joined, Step, Parser, go_on, and_then, ◌>>=◌, pure, one, chosen, is, begins, passed, at_most, tails, Reads}
 
 -- ---- steps
 
@@ -122,7 +122,7 @@ module _ {A : Type 0} (separator : Terminal) (member : Parser A) (shrinks : Shri
 
 column_shrinks : Shrinks column
 unfolding column
-column_shrinks tokens = one_shrinks (λ token. column_named token.at token.kind) tokens
+column_shrinks tokens = one_shrinks (λ token. column_named token.at (identifier_in token.kind)) tokens
 
 operator_shrinks : Shrinks operator
 unfolding operator

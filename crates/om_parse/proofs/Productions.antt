@@ -12,6 +12,7 @@ use Rattle.om_parse.specs.declared.tree.Query.{Query}
 use Rattle.om_parse.specs.declared.tree.Item.{Item}
 use Rattle.om_parse.specs.declared.tree.TableName.{TableName}
 use Rattle.om_parse.specs.declared.tree.ColumnName.{ColumnName}
+use Rattle.om_parse.specs.declared.tree.Identifier.TheVariants as i
 use Rattle.om_parse.specs.declared.tree.Numeral.{Numeral}
 use Rattle.om_parse.specs.declared.tree.ExprTree.TheVariants as e
 use Rattle.om_parse.specs.declared.tree.CondTree.{CondTree}
@@ -21,7 +22,7 @@ use Rattle.om_parse.specs.declared.tree.CompareOp.TheVariants as o
 use Rattle.om_parse.specs.Terminals.{same}
 use Rattle.om_parse.specs.Grammar.{Tokens, Lang, token, terminal, all_of, IsColumn, IsNumeral, IsItem, AreMoreItems, AreItems, IsTable, IsOperator, IsTest, AreMoreTests, IsCond, IsFilter, IsQuery}
 use Rattle.om_parse.specs.Reading as r
-use Rattle.om_parse.specs.Reading.{Step, Parser, and_then, ◌>>=◌, pure, one, is, begins, passed, tails, offset_of, expect, column_named, table_named, numeral_of, operator_of, operator_in, operator_at}
+use Rattle.om_parse.specs.Reading.{Step, Parser, and_then, ◌>>=◌, pure, one, is, begins, passed, tails, offset_of, expect, identifier_in, column_named, table_named, numeral_of, operator_of, operator_in, operator_at}
 use Rattle.om_parse.proofs.ListLemmas.{Shrinks, tails_more, tails_done, item_shrinks, test_shrinks}
 use Rattle.om_parse.proofs.Runs.{RunAt, Runs, bind_at, bind_run, map_at, map_run, one_run, branch_at}
 
@@ -55,17 +56,20 @@ expect_runs which =
     (λ next x h. mark_fits which next.at next.kind x (is which next.kind) refl h)
     (terminal 0 which, 0, ap (λ (b : Bool). cond b (Some 0) None) (same_itself which))
 
-column_fits : (at : ℕ) (kind : Kind) (x : ColumnName) → column_named at kind ≡ Some x → IsColumn (token at kind ∷ []) x
+column_fits : (at : ℕ) (kind : Kind) (x : ColumnName) → column_named at (identifier_in kind) ≡ Some x → IsColumn (token at kind ∷ []) x
 column_fits at (k.Regular name) x h =
-    let n : record { at = at; name = name } ≡ x = cc in
+    let n : record { at = at; name = i.Regular name } ≡ x = cc in
     subst (IsColumn (token at (k.Regular name) ∷ [])) n IsColumn.regular
+column_fits at (k.Delimited name) x h =
+    let n : record { at = at; name = i.Delimited name } ≡ x = cc in
+    subst (IsColumn (token at (k.Delimited name) ∷ [])) n IsColumn.delimited
 column_fits at _ x h = absurd cc
 
 pub column_runs : Runs r.column IsColumn
 unfolding r.column
 column_runs =
-    one_run (λ next. column_named next.at next.kind) IsColumn (λ next x h. column_fits next.at next.kind x h)
-    (token 0 (k.Regular []), record { at = 0; name = [] }, refl)
+    one_run (λ next. column_named next.at (identifier_in next.kind)) IsColumn (λ next x h. column_fits next.at next.kind x h)
+    (token 0 (k.Regular []), record { at = 0; name = i.Regular [] }, refl)
 
 table_fits : (at : ℕ) (kind : Kind) (x : TableName) → table_named at kind ≡ Some x → IsTable (token at kind ∷ []) x
 table_fits at (k.Regular name) x h =
@@ -254,7 +258,7 @@ join_from : (u v : Tokens) (x : ℕ) (y : TableName) → IsMark t.From u x → I
 join_from u v x y (mark {at = at}) h = from_clause at h
 
 an_item : Item
-an_item = record { expr = e.Column (record { at = 0; name = [] }) }
+an_item = record { expr = e.Column (record { at = 0; name = i.Regular [] }) }
 
 some_items : AreItems (token 0 (k.Regular []) ∷ []) (an_item ∷ [])
 unfolding an_item

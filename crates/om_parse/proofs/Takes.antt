@@ -24,6 +24,7 @@ use Rattle.om_parse.proofs.Productions.{same_itself, filter_found, filter_missin
 column_takes : {u : Tokens} {x : ColumnName} → IsColumn u x → (rest : Tokens) → r.column (u ++ rest) ≡ (Ok x, rest)
 unfolding r.column
 column_takes IsColumn.regular rest = refl
+column_takes IsColumn.delimited rest = refl
 
 table_takes : {u : Tokens} {x : TableName} → IsTable u x → (rest : Tokens) → r.table (u ++ rest) ≡ (Ok x, rest)
 unfolding r.table

@@ -10,6 +10,7 @@ use Rattle.om_parse.specs.declared.tree.Query.{Query}
 use Rattle.om_parse.specs.declared.tree.Item.{Item}
 use Rattle.om_parse.specs.declared.tree.TableName.{TableName}
 use Rattle.om_parse.specs.declared.tree.ColumnName.{ColumnName}
+use Rattle.om_parse.specs.declared.tree.Identifier.TheVariants as i
 use Rattle.om_parse.specs.declared.tree.Numeral.{Numeral}
 use Rattle.om_parse.specs.declared.tree.ExprTree.TheVariants as e
 use Rattle.om_parse.specs.declared.tree.CondTree.{CondTree}
@@ -32,9 +33,10 @@ token at kind = record { at = at; kind = kind }
 abbrev pub terminal : ℕ → Terminal → Token
 terminal at which = token at (k.Terminal which)
 
--- column = regular
+-- column = regular | delimited
 pub data IsColumn : Tokens → ColumnName → Type 0 where
-  regular : {at : ℕ} {name : List ℕ} → IsColumn (token at (k.Regular name) ∷ []) (record { at = at; name = name })
+  regular : {at : ℕ} {name : List ℕ} → IsColumn (token at (k.Regular name) ∷ []) (record { at = at; name = i.Regular name })
+  delimited : {at : ℕ} {name : List ℕ} → IsColumn (token at (k.Delimited name) ∷ []) (record { at = at; name = i.Delimited name })
 
 -- a numeral
 pub data IsNumeral : Tokens → Numeral → Type 0 where

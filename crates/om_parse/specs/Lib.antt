@@ -1,6 +1,7 @@
 pub mod Terminals
 pub mod Numerals
 pub mod Tokens
+pub mod Identifiers
 pub mod Grammar
 pub mod Refusals
 pub mod Cutting

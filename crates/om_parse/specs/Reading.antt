@@ -11,6 +11,8 @@ use Rattle.om_parse.specs.declared.tree.Query.{Query}
 use Rattle.om_parse.specs.declared.tree.Item.{Item}
 use Rattle.om_parse.specs.declared.tree.TableName.{TableName}
 use Rattle.om_parse.specs.declared.tree.ColumnName.{ColumnName}
+use Rattle.om_parse.specs.declared.tree.Identifier.{Identifier}
+use Rattle.om_parse.specs.declared.tree.Identifier.TheVariants as i
 use Rattle.om_parse.specs.declared.tree.Numeral.{Numeral}
 use Rattle.om_parse.specs.declared.tree.ExprTree.TheVariants as e
 use Rattle.om_parse.specs.declared.tree.CondTree.{CondTree}
@@ -71,9 +73,14 @@ is which _ = false
 abbrev pub offset_of : Terminal → Token → Option ℕ
 offset_of which token = if is which token.kind then Some token.at else None
 
-abbrev pub column_named : ℕ → Kind → Option ColumnName
-column_named at (k.Regular name) = Some (record { at = at; name = name })
-column_named at _ = None
+abbrev pub identifier_in : Kind → Option Identifier
+identifier_in (k.Regular name) = Some (i.Regular name)
+identifier_in (k.Delimited name) = Some (i.Delimited name)
+identifier_in _ = None
+
+abbrev pub column_named : ℕ → Option Identifier → Option ColumnName
+column_named at (Some name) = Some (record { at = at; name = name })
+column_named at None = None
 
 abbrev pub table_named : ℕ → Kind → Option TableName
 table_named at (k.Regular name) = Some (record { at = at; name = name })
@@ -104,7 +111,7 @@ abbrev pub expect : Terminal → Parser ℕ
 expect which = one (offset_of which)
 
 unfoldable pub column : Parser ColumnName
-column = one (λ token. column_named token.at token.kind)
+column = one (λ token. column_named token.at (identifier_in token.kind))
 
 unfoldable pub table : Parser TableName
 table = one (λ token. table_named token.at token.kind)

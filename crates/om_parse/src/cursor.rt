@@ -8,7 +8,7 @@ ghost use Rattle.om_parse.specs.Reading.{Reads};
 use crate::terminal;
 use crate::terminal::Terminal;
 use crate::token::{Kind, Token};
-use crate::tree::{ColumnName, CompareOp, Numeral, TableName};
+use crate::tree::{ColumnName, CompareOp, Identifier, Numeral, TableName};
 use om_base::{Name, NoMemory};
 use std::alloc::AllocError;
 use std::marker::Model;
@@ -112,14 +112,11 @@ impl<'t, 'a> Cursor<'t, 'a> {
         let [token, rest @ ..] = self.rest else {
             return Err(Stop::Wrong);
         };
-        let Kind::Regular(name) = &token.kind else {
+        let Some(name) = identifier(&token.kind) else {
             return Err(Stop::Wrong);
         };
         self.rest = rest;
-        Ok(ColumnName {
-            at: token.at,
-            name: Name::of(name.bytes()),
-        })
+        Ok(ColumnName { at: token.at, name })
     }
 
     /// A table.
@@ -192,6 +189,17 @@ impl<'t, 'a> Cursor<'t, 'a> {
             [token, ..] => token.at,
             [] => end,
         }
+    }
+}
+
+/// The identifier that a token is.
+fn identifier<'a>(kind: &Kind<'a>) -> Option<Identifier<'a>>
+    ensures { result ≡ spec.identifier_in kind.now }
+{
+    match kind {
+        Kind::Regular(name) => Some(Identifier::Regular(Name::of(name.bytes()))),
+        Kind::Delimited(name) => Some(Identifier::Delimited(Name::of(name.bytes()))),
+        _ => None,
     }
 }
 

@@ -4,9 +4,17 @@ ghost use Rattle.std.specs.Prelude.{◌≡◌, ℕ, ◌⊎◌, List};
 ghost use Rattle.om_parse.specs.declared.token.Token.{Token};
 ghost use Rattle.om_parse.specs.declared.tree.Query.{Query};
 ghost use Rattle.om_parse.specs.declared.fault.ParseFault.{ParseFault};
-ghost use Rattle.om_parse.specs.Tokens.{AreTokens};
+ghost use Rattle.om_parse.specs.Identifiers.{quoted, unquoted};
+ghost use Rattle.om_parse.specs.Tokens.{AreTokens, IsQuoted};
 ghost use Rattle.om_parse.specs.Grammar.{IsQuery};
 ghost use Rattle.om_parse.specs.Refusals.{HasTree, IsRefused, IsRefusal};
+
+/// Bytes are said by one delimited identifier, in which each double quote of theirs stands twice.
+pub fn one_spelling()
+    ensures says { (bytes : List ℕ) → unquoted (quoted bytes) ≡ bytes }
+    ensures alone { (inside : List ℕ) → IsQuoted 34 inside → inside ≡ quoted (unquoted inside) }
+    ensures allowed { (bytes : List ℕ) → IsQuoted 34 (quoted bytes) }
+{}
 
 /// A text has one list of tokens at most.
 pub fn one_token_list()

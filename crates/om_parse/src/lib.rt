@@ -6,15 +6,17 @@
 //! query  = SELECT column {, column} FROM regular [WHERE test {AND test}]
 //! test   = column op numeral
 //! op     = "=" | "<>" | "<" | "<=" | ">" | ">="
-//! column = regular
+//! column = regular | delimited
 //! ```
 //!
-//! [`parse`] gives the tree of a text, or the one place at which no query goes on.
+//! [`parse`] gives the tree of a text, or the one place at which no query goes on. What an [`Identifier`]
+//! says is its bytes; of a delimited one those between its double quotes, where two stand for one.
 #![tactic(auto)]
 
 mod cursor;
 mod fault;
 mod grammar;
+mod identifier;
 mod laws;
 mod numeral;
 mod piece;
@@ -25,6 +27,8 @@ mod tokenizer;
 mod tree;
 
 pub use fault::ParseFault;
-pub use laws::{never_both, one_refusal, one_token_list, one_tree, tree_or_refusal};
+pub use laws::{never_both, one_refusal, one_spelling, one_token_list, one_tree, tree_or_refusal};
 pub use query::parse;
-pub use tree::{ColumnName, CompareOp, CondTree, ExprTree, Item, Numeral, Query, TableName};
+pub use tree::{
+    ColumnName, CompareOp, CondTree, ExprTree, Identifier, Item, Numeral, Query, TableName,
+};

@@ -27,11 +27,20 @@ pub struct TableName<'a> {
     pub name: Name<'a>,
 }
 
+/// A name, as written.
+#[derive(Debug, Drop)]
+pub enum Identifier<'a> {
+    /// A regular identifier.
+    Regular(Name<'a>),
+    /// A delimited identifier: what stands between its double quotes, where two stand for one.
+    Delimited(Name<'a>),
+}
+
 /// A column, as written.
 #[derive(Debug, Drop)]
 pub struct ColumnName<'a> {
     pub at: u32,
-    pub name: Name<'a>,
+    pub name: Identifier<'a>,
 }
 
 /// A numeral.
