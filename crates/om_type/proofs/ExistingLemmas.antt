@@ -30,8 +30,14 @@ use Rattle.om_type.specs.declared.typed.Output.{Output}
 -- ---- the table's columns
 
 abbrev is_column : ColumnId → Bool
+is_column id.Step = true
+is_column id.Pc = true
+is_column id.Insn = true
+is_column id.Func = true
+is_column id.File = true
+is_column id.Line = true
 is_column (id.Reg number) = nat_lt number 32
-is_column _ = true
+is_column (id.Var place) = true
 
 all_columns : list_all (λ (row : List ℕ × ColumnId). is_column row.1) column_names ≡ true
 unfolding column_names
@@ -64,6 +70,7 @@ one_table (IsFrom.states relation) = omega arith
 
 expr_there : {catalog : Variables} {tree : ExprTree} {value : Expr} (typed : Typed) → 0 < length typed.tables → IsExpr catalog tree value → All (IsThere typed) (columns_of value)
 expr_there typed some (IsExpr.column means) = All-cons (IsThere typed) _ [] (some, means_column means) (All-nil _)
+expr_there typed some (IsExpr.variable means) = All-cons (IsThere typed) _ [] (some, tt) (All-nil _)
 expr_there typed some IsExpr.numeral = All-nil _
 
 columns-Compare : (compare : Compare) (left right : Expr) → columns_in (cond.Compare compare left right) ≡ columns_of left ++ columns_of right

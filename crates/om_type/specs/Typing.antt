@@ -1,8 +1,9 @@
 -- What a query asks: its names resolved, its WHERE split at its ANDs, its outputs named. SQL-92, sections 6.4, 7.9 and 8.2,
 -- as far as the query language has them.
-use Rattle.std.specs.Prelude.{◌≡◌, ℕ, ◌+◌, Bool, true, false, List, [], ◌∷◌, ◌++◌, codes, Option, Some, None}
+use Rattle.std.specs.Prelude.{◌≡◌, ◌≢◌, ℕ, ◌+◌, ◌^◌, ◌<◌, Bool, true, false, List, [], ◌∷◌, ◌++◌, codes, Option, Some, None}
 use Rattle.std.specs.Fmt.{decimal}
-use Rattle.std.specs.List.{flat_map}
+use Rattle.std.specs.List.{flat_map, slice_get}
+use Rattle.std.specs.Option.{IsSome}
 use Rattle.om_eval.specs.declared.catalog.VarInfo.{VarInfo}
 use Rattle.om_eval.specs.declared.column.ColumnId.{ColumnId}
 use Rattle.om_eval.specs.declared.column.ColumnId.TheVariants as id
@@ -12,6 +13,8 @@ use Rattle.om_eval.specs.declared.cond.Cond.{Cond}
 use Rattle.om_eval.specs.declared.cond.Cond.TheVariants as cond
 use Rattle.om_eval.specs.declared.expr.Expr.{Expr}
 use Rattle.om_eval.specs.declared.expr.Expr.TheVariants as expr
+use Rattle.om_parse.specs.Identifiers.{said}
+use Rattle.om_parse.specs.declared.tree.Identifier.TheVariants as i
 use Rattle.om_parse.specs.declared.tree.Query.{Query}
 use Rattle.om_parse.specs.declared.tree.Item.{Item}
 use Rattle.om_parse.specs.declared.tree.TableName.{TableName}
@@ -27,9 +30,19 @@ use Rattle.om_type.specs.Columns.{Means, is_relation}
 use Rattle.om_type.specs.declared.typed.Typed.{Typed}
 use Rattle.om_type.specs.declared.typed.Output.{Output}
 
--- the variables that a query may name, in order. No production below names one: they need delimited identifiers
+-- the variables of the program, in order
 abbrev pub Variables : Type 0
 Variables = List VarInfo
+
+-- a name means, by its bytes, the variable at this place: the first of that name, which is one variable and holds numbers
+pub record IsVariable (catalog : Variables) (name : List ℕ) (place : ℕ) : Type 0 where
+  pub info : VarInfo
+  pub there : slice_get catalog place ≡ Some info
+  pub named : info.name ≡ name
+  pub first : (earlier : ℕ) (other : VarInfo) → earlier < place → slice_get catalog earlier ≡ Some other → other.name ≢ name
+  pub alone : info.ambiguous ≡ false
+  pub numbers : IsSome info.scalar
+  pub narrow : place < 2 ^ 32
 
 -- ---- expressions
 
@@ -39,14 +52,21 @@ own id = expr.Column (record { table = 0; id = id })
 
 -- an expression's names, resolved
 pub data IsExpr (catalog : Variables) : ExprTree → Expr → Type 0 where
-  column : {at : ℕ} {name : List ℕ} {id : ColumnId} → Means name id → IsExpr catalog (e.Column (record { at = at; name = name })) (own id)
+  column : {at : ℕ} {name : List ℕ} {id : ColumnId} → Means name id → IsExpr catalog (e.Column (record { at = at; name = i.Regular name })) (own id)
+  variable : {at : ℕ} {name : List ℕ} {place : ℕ} → IsVariable catalog (said (i.Delimited name)) place
+      → IsExpr catalog (e.Column (record { at = at; name = i.Delimited name })) (own (id.Var place))
   numeral : {at value : ℕ} → IsExpr catalog (e.Numeral (record { at = at; value = value })) (expr.Numeral value)
 
 -- the values of a column are texts or NULL; those of any other are numbers or NULL
 abbrev pub has_texts : ColumnId → Bool
+has_texts id.Step = false
+has_texts id.Pc = false
+has_texts id.Insn = false
 has_texts id.Func = true
 has_texts id.File = true
-has_texts _ = false
+has_texts id.Line = false
+has_texts (id.Reg number) = false
+has_texts (id.Var place) = false
 
 -- the values of an expression are texts or NULL; those of any other are numbers or NULL
 abbrev pub is_text : Expr → Bool
@@ -93,9 +113,9 @@ conjuncts_of (Some tree) = conjuncts_in tree
 
 -- ---- the result's columns
 
--- the name of the output at a position, from 1: a column's as written, of another expression its position behind `col`
+-- the name of the output at a position, from 1: what a column's identifier says, of another expression its position behind `col`
 abbrev pub name_of : ℕ → ExprTree → List ℕ
-name_of position (e.Column written) = written.name
+name_of position (e.Column written) = said written.name
 name_of position (e.Numeral written) = codes "col" ++ decimal position
 
 -- the outputs of items, the first of which is at a position

@@ -13,18 +13,29 @@ ghost use Rattle.om_type.specs.declared.typed.Typed.{Typed};
 use crate::columns::{column_of, is_states};
 use crate::fault::TypeFault;
 use crate::typed::{Output, Typed};
+use crate::variables::variable_of;
 use om_base::{Items, Name, NoMemory, Text, put_decimal};
 use om_eval::{Catalog, Column, ColumnId, Compare, Cond, Expr};
-use om_parse::{CompareOp, CondTree, ExprTree, Item, Query, TableName};
+use om_parse::{CompareOp, CondTree, ExprTree, Identifier, Item, Query, TableName};
 use std::alloc::Global;
+
+/// What an identifier means.
+fn meant(name: &Identifier<'_>, catalog: &Catalog) -> Option<ColumnId>
+    ensures { result ≡ spec.meant catalog.now name.now }
+{
+    match name {
+        Identifier::Regular(column) => column_of(column.bytes()),
+        Identifier::Delimited(_) => variable_of(name, catalog).map(ColumnId::Var),
+    }
+}
 
 /// An expression with its names resolved.
 #[tactic(auto, unfolding(crate::specs::Checking::expr_in))]
-fn check_expr(tree: &ExprTree<'_>) -> Result<Expr, TypeFault>
-    ensures { Gives (spec.expr_in tree.now) result }
+fn check_expr(tree: &ExprTree<'_>, catalog: &Catalog) -> Result<Expr, TypeFault>
+    ensures { Gives (spec.expr_in catalog.now tree.now) result }
 {
     match tree {
-        ExprTree::Column(column) => match column_of(column.name.bytes()) {
+        ExprTree::Column(column) => match meant(&column.name, catalog) {
             Some(id) => Ok(Expr::Column(Column { table: 0, id })),
             None => Err(TypeFault::Unbuilt),
         },
@@ -39,7 +50,12 @@ fn is_text(expr: &Expr) -> bool
     match expr {
         Expr::Column(column) => match column.id {
             ColumnId::Func | ColumnId::File => true,
-            _ => false,
+            ColumnId::Step
+            | ColumnId::Pc
+            | ColumnId::Insn
+            | ColumnId::Line
+            | ColumnId::Reg(_)
+            | ColumnId::Var(_) => false,
         },
         Expr::Numeral(_) => false,
     }
@@ -47,10 +63,10 @@ fn is_text(expr: &Expr) -> bool
 
 /// An expression with its names resolved, where its values are numbers.
 #[tactic(auto, unfolding(crate::specs::Checking::number_in))]
-fn check_number(tree: &ExprTree<'_>) -> Result<Expr, TypeFault>
-    ensures { Gives (spec.number_in tree.now) result }
+fn check_number(tree: &ExprTree<'_>, catalog: &Catalog) -> Result<Expr, TypeFault>
+    ensures { Gives (spec.number_in catalog.now tree.now) result }
 {
-    let expr = check_expr(tree)?;
+    let expr = check_expr(tree, catalog)?;
     if is_text(&expr) {
         return Err(TypeFault::Unbuilt);
     }
@@ -77,11 +93,12 @@ fn check_comparison(
     op: CompareOp,
     left: &ExprTree<'_>,
     right: &ExprTree<'_>,
+    catalog: &Catalog,
 ) -> Result<Cond, TypeFault>
-    ensures { Gives (spec.comparison_in op left.now right.now) result }
+    ensures { Gives (spec.comparison_in catalog.now op left.now right.now) result }
 {
-    let left = check_number(left)?;
-    let right = check_number(right)?;
+    let left = check_number(left, catalog)?;
+    let right = check_number(right, catalog)?;
     Ok(Cond::Compare(compare_of(op), left, right))
 }
 
@@ -90,18 +107,23 @@ fn push_comparison(
     op: CompareOp,
     left: &ExprTree<'_>,
     right: &ExprTree<'_>,
+    catalog: &Catalog,
     conjuncts: &mut Items<Cond>,
 ) -> Result<(), TypeFault>
-    ensures { Gives (after conjuncts.old (all_some (spec.comparison_in op left.now right.now ∷ []))) (grown result conjuncts.new) }
+    ensures { Gives (after conjuncts.old (all_some (spec.comparison_in catalog.now op left.now right.now ∷ []))) (grown result conjuncts.new) }
 {
-    let comparison = check_comparison(op, left, right)?;
+    let comparison = check_comparison(op, left, right, catalog)?;
     conjuncts.push(comparison)?;
     Ok(())
 }
 
 /// Appends the conjuncts of a condition, each with its names resolved.
-fn push_conjuncts(tree: &CondTree<'_>, conjuncts: &mut Items<Cond>) -> Result<(), TypeFault>
-    ensures { Gives (after conjuncts.old (tests_of tree.now)) (grown result conjuncts.new) }
+fn push_conjuncts(
+    tree: &CondTree<'_>,
+    catalog: &Catalog,
+    conjuncts: &mut Items<Cond>,
+) -> Result<(), TypeFault>
+    ensures { Gives (after conjuncts.old (tests_of catalog.now tree.now)) (grown result conjuncts.new) }
 {
     match tree {
         CondTree::Compare {
@@ -109,10 +131,10 @@ fn push_conjuncts(tree: &CondTree<'_>, conjuncts: &mut Items<Cond>) -> Result<()
             left,
             right,
             ..
-        } => push_comparison(*op, left, right, conjuncts),
+        } => push_comparison(*op, left, right, catalog, conjuncts),
         CondTree::All(members) => {
             for member in members.as_slice() {
-                push_conjuncts(member, conjuncts)?;
+                push_conjuncts(member, catalog, conjuncts)?;
             }
             Ok(())
         }
@@ -121,14 +143,18 @@ fn push_conjuncts(tree: &CondTree<'_>, conjuncts: &mut Items<Cond>) -> Result<()
 
 /// The conjuncts of a WHERE, each with its names resolved.
 #[tactic(auto, unfolding(crate::specs::Checking::tests_of, crate::specs::Checking::tests_in), using(crate::proofs::SomesLemmas::none_found))]
-fn check_filter(alloc: Global, filter: &Option<CondTree<'_>>) -> Result<Items<Cond>, TypeFault>
-    ensures { Gives (spec.tests_in (conjuncts_of filter.now)) result }
+fn check_filter(
+    alloc: Global,
+    filter: &Option<CondTree<'_>>,
+    catalog: &Catalog,
+) -> Result<Items<Cond>, TypeFault>
+    ensures { Gives (spec.tests_in catalog.now (conjuncts_of filter.now)) result }
 {
     let mut conjuncts = Items::new(alloc);
     let Some(tree) = filter else {
         return Ok(conjuncts);
     };
-    push_conjuncts(tree, &mut conjuncts)?;
+    push_conjuncts(tree, catalog, &mut conjuncts)?;
     Ok(conjuncts)
 }
 
@@ -137,7 +163,7 @@ fn name_of(alloc: Global, position: usize, tree: &ExprTree<'_>) -> Result<Text, 
     ensures { IfOk result (λ name. name ≡ typing.name_of position tree.now) }
 {
     match tree {
-        ExprTree::Column(column) => Text::copy_of(alloc, column.name.bytes()),
+        ExprTree::Column(column) => column.name.said(alloc),
         ExprTree::Numeral(_) => {
             let mut name = Text::copy_of(alloc, b"col")?;
             put_decimal(&mut name, position as i128)?;
@@ -148,22 +174,31 @@ fn name_of(alloc: Global, position: usize, tree: &ExprTree<'_>) -> Result<Text, 
 
 /// The output of the item at a position, from 1.
 #[tactic(auto, unfolding(crate::specs::Checking::output_in))]
-fn check_item(alloc: Global, position: usize, item: &Item<'_>) -> Result<Output, TypeFault>
-    ensures { Gives (spec.output_in position item.now) result }
+fn check_item(
+    alloc: Global,
+    position: usize,
+    item: &Item<'_>,
+    catalog: &Catalog,
+) -> Result<Output, TypeFault>
+    ensures { Gives (spec.output_in catalog.now position item.now) result }
 {
-    let expr = check_expr(&item.expr)?;
+    let expr = check_expr(&item.expr, catalog)?;
     let name = name_of(alloc, position, &item.expr)?;
     Ok(Output { name, expr })
 }
 
 /// The outputs of the items.
 #[tactic(auto, unfolding(crate::specs::Checking::outputs_in))]
-fn check_items(alloc: Global, mut items: &[Item<'_>]) -> Result<Items<Output>, TypeFault>
-    ensures { Gives (spec.outputs_in items.entry.now) result }
+fn check_items(
+    alloc: Global,
+    mut items: &[Item<'_>],
+    catalog: &Catalog,
+) -> Result<Items<Output>, TypeFault>
+    ensures { Gives (spec.outputs_in catalog.now items.entry.now) result }
 {
     let mut outputs = Items::new(alloc);
     while let [item, rest @ ..] = items {
-        let output = check_item(alloc, outputs.len() + 1, item)?;
+        let output = check_item(alloc, outputs.len() + 1, item, catalog)?;
         outputs.push(output)?;
         items = rest;
     }
@@ -188,12 +223,16 @@ fn check_tables<'q>(alloc: Global, tables: &[TableName<'q>]) -> Result<Items<Nam
 
 /// What a query asks, with its names resolved.
 #[tactic(auto, unfolding(crate::specs::Checking::typed_in))]
-fn check_parts<'q>(alloc: Global, query: &Query<'q>) -> Result<Typed<'q>, TypeFault>
-    ensures { Gives (spec.typed_in query.now) result }
+fn check_parts<'q>(
+    alloc: Global,
+    query: &Query<'q>,
+    catalog: &Catalog,
+) -> Result<Typed<'q>, TypeFault>
+    ensures { Gives (spec.typed_in catalog.now query.now) result }
 {
     let tables = check_tables(alloc, query.tables.as_slice())?;
-    let outputs = check_items(alloc, query.items.as_slice())?;
-    let conjuncts = check_filter(alloc, &query.filter)?;
+    let outputs = check_items(alloc, query.items.as_slice(), catalog)?;
+    let conjuncts = check_filter(alloc, &query.filter, catalog)?;
     Ok(Typed {
         tables,
         conjuncts,
@@ -201,8 +240,7 @@ fn check_parts<'q>(alloc: Global, query: &Query<'q>) -> Result<Typed<'q>, TypeFa
     })
 }
 
-/// What a query asks, with its names resolved. No query that is built names a variable of the catalog:
-/// that takes a delimited identifier.
+/// What a query asks, with its names resolved: a delimited identifier names a variable of the catalog.
 pub fn check<'q>(
     alloc: Global,
     query: &Query<'q>,
@@ -220,7 +258,7 @@ pub fn check<'q>(
     ensures exist { IfOk result AllExist }
 
     // The same as a function, for callers that rewrite by it.
-    ensures gives { Gives (spec.typed_in query.now) result }
+    ensures gives { Gives (spec.typed_in catalog.now query.now) result }
 {
-    check_parts(alloc, query)
+    check_parts(alloc, query, catalog)
 }

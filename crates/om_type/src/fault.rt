@@ -7,7 +7,8 @@ use om_base::NoMemory;
 pub enum TypeFault {
     /// No memory was left.
     NoMemory,
-    /// The query asks for something else than columns of `states` and comparisons of numbers.
+    /// The query asks for something else than columns of `states`, variables of numbers, and comparisons of
+    /// numbers.
     Unbuilt,
 }
 

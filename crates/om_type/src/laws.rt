@@ -11,13 +11,18 @@ ghost use Rattle.om_parse.specs.declared.tree.Query.{Query};
 ghost use Rattle.om_type.specs.Checking.{typed_in};
 ghost use Rattle.om_type.specs.Columns.{Means};
 ghost use Rattle.om_type.specs.Splitting.{IsWhole};
-ghost use Rattle.om_type.specs.Typing.{Variables, AreTests, IsTyped, conjuncts_in};
+ghost use Rattle.om_type.specs.Typing.{Variables, IsVariable, AreTests, IsTyped, conjuncts_in};
 ghost use Rattle.om_type.specs.Unbuilt.{IsUnbuilt};
 ghost use Rattle.om_type.specs.declared.typed.Typed.{Typed};
 
 /// A name means one column at most.
 pub fn one_column()
     ensures { (name : List ℕ) (a b : ColumnId) → Means name a → Means name b → a ≡ b }
+{}
+
+/// A name means one variable of a catalog at most.
+pub fn one_variable()
+    ensures { (catalog : Variables) (name : List ℕ) (a b : ℕ) → IsVariable catalog name a → IsVariable catalog name b → a ≡ b }
 {}
 
 /// A query has one typing at most.
@@ -35,10 +40,11 @@ pub fn typing_or_unbuilt()
     ensures { (catalog : Variables) (query : Query) → ((typed : Typed) × IsTyped catalog query typed) ⊎ IsUnbuilt catalog query }
 {}
 
-/// What a query asks is a function of its tree, which callers may cite in place of the relations.
+/// What a query asks is a function of its tree and the catalog, which callers may cite in place of the
+/// relations.
 pub fn typing_function()
-    ensures typed { (catalog : Variables) (query : Query) (typed : Typed) → (typed_in query ≡ Some typed) ↔ IsTyped catalog query typed }
-    ensures unbuilt { (catalog : Variables) (query : Query) → (typed_in query ≡ None) ↔ IsUnbuilt catalog query }
+    ensures typed { (catalog : Variables) (query : Query) (typed : Typed) → (typed_in catalog query ≡ Some typed) ↔ IsTyped catalog query typed }
+    ensures unbuilt { (catalog : Variables) (query : Query) → (typed_in catalog query ≡ None) ↔ IsUnbuilt catalog query }
 {}
 
 /// The truth of a WHERE is that of the AND of its conjuncts, so that it is Yes at the rows at which each

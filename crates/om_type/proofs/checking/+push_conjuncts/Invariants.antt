@@ -5,4 +5,4 @@ abbrev pub decreases-push_conjuncts : goal.decreases-push_conjuncts
 decreases-push_conjuncts l = goal.size-push_conjuncts l
 
 abbrev pub invariant-loop-member : goal.invariant-loop-member
-invariant-loop-member l = AreFoundSoFar l.initial.conjuncts l.conjuncts l.member-items l.member-index
+invariant-loop-member l = AreFoundSoFar l.catalog l.initial.conjuncts l.conjuncts l.member-items l.member-index
