@@ -1,7 +1,7 @@
 //! Texts and what they are: the tree with its offsets, or the fault.
 
 use om_base::{NoMemory, Text, put_decimal};
-use om_parse::{ColumnName, CompareOp, CondTree, ExprTree, ParseFault, Query, parse};
+use om_parse::{ColumnName, CompareOp, CondTree, ExprTree, Identifier, ParseFault, Query, parse};
 use std::alloc::Global;
 use std::test::Fail;
 
@@ -12,9 +12,20 @@ fn show_name(shown: &mut Text, at: u32, name: &[u8]) -> Result<(), NoMemory> {
     shown.add(name)
 }
 
+fn show_column(shown: &mut Text, column: &ColumnName<'_>) -> Result<(), NoMemory> {
+    match &column.name {
+        Identifier::Regular(name) => show_name(shown, column.at, name.bytes()),
+        Identifier::Delimited(name) => {
+            show_name(shown, column.at, b"\"")?;
+            shown.add(name.bytes())?;
+            shown.add(b"\"")
+        }
+    }
+}
+
 fn show_expr(shown: &mut Text, expr: &ExprTree<'_>) -> Result<(), NoMemory> {
     match expr {
-        ExprTree::Column(ColumnName { at, name }) => show_name(shown, *at, name.bytes()),
+        ExprTree::Column(column) => show_column(shown, column),
         ExprTree::Numeral(numeral) => {
             show_name(shown, numeral.at, b"#")?;
             put_decimal(shown, i128::from(numeral.value))
@@ -105,6 +116,10 @@ fn texts_have_these_trees_and_faults(rt: HostRuntime) -> Result<(), Fail> {
             "select a FROM s WHERE b = 65544",
             " 7:a from 14:s where 22:b 24:= 26:#65544",
         ),
+        (
+            "SELECT \"counter\", \"a\"\"b\" FROM s WHERE \"c d\" = 7",
+            " 7:\"counter\" 18:\"a\"\"b\" from 30:s where 38:\"c d\" 44:= 46:#7",
+        ),
         // Bytes that begin no token, told before any token that doesn't fit.
         ("FROM 'unfinished", " 5:syntax"),
         ("SELECT \"\" FROM s", " 7:syntax"),
@@ -120,6 +135,7 @@ fn texts_have_these_trees_and_faults(rt: HostRuntime) -> Result<(), Fail> {
         ("SELECT a FROM s WHERE a =< 1", " 25:syntax"),
         ("SELECT a FROM s WHERE a = 1 OR b = 2", " 28:syntax"),
         ("SELECT a FROM s 'it''s'", " 16:syntax"),
+        ("SELECT a FROM \"states\"", " 14:syntax"),
     ];
     for (text, want) in rows {
         let shown = shown(rt.alloc(), text.as_bytes())?;

@@ -1,8 +1,10 @@
 //! Queries and what they ask: the tables, the condition's conjuncts, and the outputs with their names.
 
-use om_base::{Items, Name, NoMemory, Text, put_decimal};
-use om_eval::{Catalog, Column, ColumnId, Compare, Cond, Expr};
-use om_parse::{ColumnName, CompareOp, CondTree, ExprTree, Item, Numeral, Query, TableName, parse};
+use om_base::{Interval, Items, Name, NoMemory, Text, put_decimal};
+use om_eval::{Catalog, Column, ColumnId, Compare, Cond, Expr, VarInfo};
+use om_parse::{
+    ColumnName, CompareOp, CondTree, ExprTree, Identifier, Item, Numeral, Query, TableName, parse,
+};
 use om_type::{TypeFault, Typed, check};
 use sqlite_items::Items as Members;
 use std::alloc::Global;
@@ -21,7 +23,10 @@ fn show_column(shown: &mut Text, column: Column) -> Result<(), NoMemory> {
             shown.add(b".x")?;
             put_decimal(shown, i128::from(number))
         }
-        _ => shown.add(b".?"),
+        ColumnId::Var(place) => {
+            shown.add(b".v")?;
+            put_decimal(shown, i128::from(place))
+        }
     }
 }
 
@@ -72,10 +77,9 @@ fn show_typed(shown: &mut Text, typed: &Typed<'_>) -> Result<(), NoMemory> {
 }
 
 /// What a query comes to.
-fn shown(alloc: Global, query: &Query<'_>) -> Result<Text, NoMemory> {
+fn shown(alloc: Global, query: &Query<'_>, catalog: &Catalog) -> Result<Text, NoMemory> {
     let mut shown = Text::copy_of(alloc, b"")?;
-    let catalog: Catalog = Items::new(alloc);
-    match check(alloc, query, &catalog) {
+    match check(alloc, query, catalog) {
         Ok(typed) => show_typed(&mut shown, &typed)?,
         Err(TypeFault::NoMemory) => shown.add(b"no memory")?,
         Err(TypeFault::Unbuilt) => shown.add(b"unbuilt")?,
@@ -84,9 +88,9 @@ fn shown(alloc: Global, query: &Query<'_>) -> Result<Text, NoMemory> {
 }
 
 /// What the query that a text spells comes to.
-fn shown_of(alloc: Global, text: &[u8]) -> Result<Text, NoMemory> {
+fn shown_of(alloc: Global, text: &[u8], catalog: &Catalog) -> Result<Text, NoMemory> {
     match parse(alloc, text) {
-        Ok(query) => shown(alloc, &query),
+        Ok(query) => shown(alloc, &query, catalog),
         Err(_) => Text::copy_of(alloc, b"no query"),
     }
 }
@@ -121,8 +125,67 @@ fn queries_ask_this(rt: HostRuntime) -> Result<(), Fail> {
         ("SELECT step FROM states WHERE a0 = 1 AND a8 = 2", "unbuilt"),
         ("SELECT step FROM states WHERE func = 1", "unbuilt"),
     ];
+    let catalog: Catalog = Items::new(rt.alloc());
     for (text, want) in rows {
-        let shown = shown_of(rt.alloc(), text.as_bytes())?;
+        let shown = shown_of(rt.alloc(), text.as_bytes(), &catalog)?;
+        assert_eq!(rt; shown.bytes(), want.as_bytes(), "of {text}");
+    }
+    Ok(())
+}
+
+fn variable(name: &'static [u8], scalar: Option<Interval>, ambiguous: bool) -> VarInfo<'static> {
+    VarInfo {
+        name: Name::of(name),
+        scalar,
+        ambiguous,
+        fixed: true,
+    }
+}
+
+fn some_variables(alloc: Global) -> Result<Catalog<'static>, NoMemory> {
+    let byte = Some(Interval { lo: 0, hi: 255 });
+    let variables = Vec::from_array(
+        alloc,
+        [
+            variable(b"counter", byte, false),
+            variable(b"twice", byte, true),
+            variable(b"point", None, false),
+            variable(b"a\"b", byte, false),
+            variable(b"counter", byte, true),
+            variable(b"step", byte, false),
+        ],
+    )?;
+    Ok(Items::from_vec(variables))
+}
+
+// A delimited identifier names a variable by its bytes, and a regular one a column.
+#[test]
+fn queries_ask_this_of_variables(rt: HostRuntime) -> Result<(), Fail> {
+    let rows = [
+        (
+            "SELECT step, \"counter\" FROM states WHERE \"counter\" = 7",
+            "states: step=0.step counter=0.v0 where 0.v0=7",
+        ),
+        (
+            "SELECT \"a\"\"b\", \"step\" FROM states",
+            "states: a\"b=0.v3 step=0.v5 where",
+        ),
+        // Ambiguous, of no scalar type, not there, in another case, and a column.
+        ("SELECT \"twice\" FROM states", "unbuilt"),
+        ("SELECT \"point\" FROM states", "unbuilt"),
+        ("SELECT \"other\" FROM states", "unbuilt"),
+        ("SELECT \"Counter\" FROM states", "unbuilt"),
+        ("SELECT \"pc\" FROM states", "unbuilt"),
+        ("SELECT step FROM states WHERE \"twice\" = 1", "unbuilt"),
+        // A regular identifier names no variable.
+        ("SELECT counter FROM states", "unbuilt"),
+        // A delimited table, and a delimited identifier of no bytes.
+        ("SELECT step FROM \"states\"", "no query"),
+        ("SELECT \"\" FROM states", "no query"),
+    ];
+    let catalog = some_variables(rt.alloc())?;
+    for (text, want) in rows {
+        let shown = shown_of(rt.alloc(), text.as_bytes(), &catalog)?;
         assert_eq!(rt; shown.bytes(), want.as_bytes(), "of {text}");
     }
     Ok(())
@@ -131,7 +194,7 @@ fn queries_ask_this(rt: HostRuntime) -> Result<(), Fail> {
 fn column(name: &'static [u8]) -> ExprTree<'static> {
     ExprTree::Column(ColumnName {
         at: 0,
-        name: Name::of(name),
+        name: Identifier::Regular(Name::of(name)),
     })
 }
 
@@ -187,7 +250,8 @@ fn other_trees_ask_this(rt: HostRuntime) -> Result<(), Fail> {
         tables: Items::from_vec(tables),
         filter: Some(filter),
     };
-    let shown_query = shown(alloc, &query)?;
+    let catalog: Catalog = Items::new(alloc);
+    let shown_query = shown(alloc, &query, &catalog)?;
     let want = "states: pc=0.pc col2=7 where 2=0.x10 3=4 0.x8=0.x8";
     assert_eq!(rt; shown_query.bytes(), want.as_bytes());
     let tables = Vec::from_array(alloc, [table(b"states"), table(b"states")])?;
@@ -195,7 +259,7 @@ fn other_trees_ask_this(rt: HostRuntime) -> Result<(), Fail> {
         tables: Items::from_vec(tables),
         ..query
     };
-    let shown_twice = shown(alloc, &twice)?;
+    let shown_twice = shown(alloc, &twice, &catalog)?;
     assert_eq!(rt; shown_twice.bytes(), b"unbuilt".as_slice());
     Ok(())
 }
