@@ -9,6 +9,7 @@ use Rattle.om_eval.specs.declared.value.Owned.{Owned}
 use Rattle.om_eval.specs.declared.value.Owned.TheVariants.{Int, Text, Null}
 use Rattle.om_line.specs.declared.row.LineRow.{LineRow}
 use Rattle.om_names.specs.Facts.{Facts}
+use Rattle.om_view.specs.Variable.{held_value}
 
 -- a number, NULL where there is none
 abbrev pub value_of : Option ℕ → Owned
@@ -25,7 +26,7 @@ abbrev pub line_of : Option LineRow → Option ℕ
 line_of (Some row) = if nat_eq row.line 0 then None else Some row.line
 line_of None = None
 
--- the value of a column at a state after so many steps; what isn't read of the debugging information is NULL
+-- the value of a column at a state after so many steps
 abbrev pub cell_of : Facts → State → ℕ → ColumnId → Owned
 cell_of facts state step id.Step = Int (pos step)
 cell_of facts state step id.Pc = Int (pos state.pc)
@@ -34,7 +35,7 @@ cell_of facts state step (id.Reg number) = Int (pos (register state number))
 cell_of facts state step id.Func = text_of (facts.func_at state.pc)
 cell_of facts state step id.File = text_of (facts.lines.file_at state.pc)
 cell_of facts state step id.Line = value_of (line_of (facts.lines.line_at state.pc))
-cell_of facts state step (id.Var place) = Null
+cell_of facts state step (id.Var place) = held_value state.memory (facts.variables.held place)
 
 -- the row of the state after so many steps
 abbrev pub row_of : Facts → State → ℕ → Row

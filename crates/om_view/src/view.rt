@@ -6,6 +6,7 @@ ghost use Rattle.om_names.specs.Known.{told_by};
 ghost use Rattle.om_view.specs.Row as spec;
 ghost use Rattle.om_view.specs.Row.{row_of};
 
+use crate::variable::held_value;
 use om_base::Name;
 use om_eval::{ColumnId, RowView, Value};
 use om_line::LineRow;
@@ -66,8 +67,9 @@ impl RowView for View<'_> {
             ColumnId::Func => text(self.debug.func_at(self.machine.pc())),
             ColumnId::File => text(self.debug.file_at(self.machine.pc())),
             ColumnId::Line => value(line_of(self.debug.line_at(self.machine.pc()))),
-            // Nothing of these is read.
-            ColumnId::Var(_) => Value::Null,
+            ColumnId::Var(place) => {
+                held_value(self.machine.memory(), self.debug.variable(place))
+            }
         }
     }
 
