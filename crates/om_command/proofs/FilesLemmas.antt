@@ -8,14 +8,15 @@ use Rattle.om_log.specs.declared.fault.LogFault.{LogFault}
 use Rattle.om_log.specs.declared.log.Log.{Log}
 use Rattle.om_names.specs.Information.{Information}
 use Rattle.om_names.specs.declared.fault.NamesFault.{NamesFault}
+use Rattle.om_type.specs.Typing.{Variables}
 use Rattle.om_type.specs.declared.typed.Typed.{Typed}
 use Rattle.om_command.specs.Command.{ComesTo, effect_with}
 use Rattle.om_command.specs.Effect.{Effect, exceeds, misses}
 use Rattle.om_command.specs.Files.{AreFound, AreSeen, File, IsSeen, Reaches, Seen, found, longer, missing, seen_of}
 use Rattle.om_command.specs.Prepared.{IsPrepared, Prepares}
-use Rattle.om_command.specs.Readings.{AreReadings, IsDebugReading, IsLogReading, IsQueryReading, IsLogRead, Readings, content_at, needs_of, variables}
+use Rattle.om_command.specs.Readings.{AreReadings, IsDebugReading, IsLogReading, IsQueryReading, IsLogRead, Readings, content_at, needs_of, variables_of}
 use Rattle.om_command.specs.Reads.{AreMet, Gives, IsLonger, IsMet, StopsAt}
-use Rattle.om_command.specs.Requests.{Command, Request, queries, records}
+use Rattle.om_command.specs.Requests.{Command, Request, informs, queries, records}
 use Rattle.om_command.specs.declared.ending.Ending.{Ending}
 use Rattle.om_command.specs.declared.ending.Ending.TheVariants.{Done, Refused, Exceeded, Unread, Unput, Unwritten, NoMemory}
 use Rattle.om_command.specs.declared.outcome.Outcome.{Outcome}
@@ -26,7 +27,7 @@ use Rattle.om_command.specs.declared.outcome.Outcome.{Outcome}
 pub record AllRead : Type 0 where
   pub debug : (elf : Elf) → (read : Result Information NamesFault) × IsDebugReading elf read
   pub log : (file : List ℕ) → ((i : ℕ) → slice_index file i < 256) → (read : Result Log LogFault) × IsLogReading file read
-  pub query : (text : List ℕ) → (read : Option Typed) × IsQueryReading variables text read
+  pub query : (variables : Variables) (text : List ℕ) → (read : Option Typed) × IsQueryReading variables text read
 
 -- a list is one of bytes, or it isn't
 are_bytes : (file : List ℕ) → ((i : ℕ) → slice_index file i < 256) ⊎ (((i : ℕ) → slice_index file i < 256) → ⊥)
@@ -64,15 +65,20 @@ a_log all other file =
 pub readings_of : AllRead → (command : Command) (contents : List (List ℕ)) → (read : Readings) × AreReadings (needs_of command) contents read
 readings_of all (queries sql) contents =
     let debug = all.debug (elf_in (content_at contents 0)) in
-    let query = all.query sql in
+    let query = all.query (variables_of debug.0) sql in
     let other = all.log [] (λ i. omega arith) in
     let log = a_log all other.0 (content_at contents 1) in
     (record { debug = debug.0; log = log.0; query = query.0 }, record { debug = λ bytes none. debug.1; log = log.1; query = query.1 })
 readings_of all (records log) contents =
     let debug = all.debug (elf_in []) in
-    let query = all.query [] in
+    let query = all.query [] [] in
     let other = all.log [] (λ i. omega arith) in
     (record { debug = debug.0; log = other.0; query = query.0 }, record { debug = tt; log = tt; query = tt })
+readings_of all informs contents =
+    let debug = all.debug (elf_in (content_at contents 0)) in
+    let query = all.query [] [] in
+    let other = all.log [] (λ i. omega arith) in
+    (record { debug = debug.0; log = other.0; query = query.0 }, record { debug = λ bytes none. debug.1; log = tt; query = tt })
 
 -- ---- there is an effect
 

@@ -1,8 +1,10 @@
 -- What a command means: a function of its words, of the files that it names, and of what these say.
-use Rattle.std.specs.Prelude.{◌≡◌, ℕ, nat_eq, nat_lt, codes, decimal, if◌then◌else◌, ◌⊎◌, List, [], ◌∷◌, ◌++◌, Option, Some, None, Result, Ok, Err}
+use Rattle.std.specs.Prelude.{◌≡◌, ℕ, nat_eq, nat_lt, codes, decimal, if◌then◌else◌, ◌⊎◌, List, [], ◌∷◌, ◌++◌, length, Option, Some, None, Result, Ok, Err}
+use Rattle.om_base.specs.Limits.{most_bytes}
 use Rattle.om_elf.specs.Executable.{elf_fault, elf_in}
 use Rattle.om_elf.specs.declared.elf.Elf.{Elf}
 use Rattle.om_elf.specs.declared.fault.ElfFault.{ElfFault}
+use Rattle.om_info.specs.Text.{info_of}
 use Rattle.om_log.specs.declared.entry.Entry.{Entry}
 use Rattle.om_log.specs.declared.fault.LogFault.{LogFault}
 use Rattle.om_log.specs.declared.log.Log.{Log}
@@ -23,7 +25,7 @@ use Rattle.om_command.specs.Answer.{answer_text, condition_of}
 use Rattle.om_command.specs.Effect.{Effect, prints, puts, refuses, exceeds, misses}
 use Rattle.om_command.specs.Files.{AreFound, File, Reaches, longer, missing}
 use Rattle.om_command.specs.Readings.{AreReadings, Readings, content_at, needs_of}
-use Rattle.om_command.specs.Requests.{Command, Request, queries, records}
+use Rattle.om_command.specs.Requests.{Command, Request, informs, queries, records}
 use Rattle.om_type.specs.declared.typed.Typed.{Typed}
 
 -- the greatest number of steps that are replayed or recorded
@@ -94,12 +96,32 @@ recorded_elf None elf input name = put_under name (recording elf input most_step
 unfoldable pub recorded_run : (exe input name : List ℕ) → Effect
 recorded_run exe input name = recorded_elf (elf_fault exe) (elf_in exe) input name
 
+-- ---- telling of an executable
+
+-- a text is printed, unless it has more bytes than are printed
+abbrev pub printed_within : List ℕ → Effect
+printed_within text = if nat_lt most_bytes (length text) then refuses refusal.TooManyBytes else prints text
+
+-- debugging information with a fault is refused
+abbrev pub informed_debug : Elf → Result Information NamesFault → Effect
+informed_debug elf (Err fault) = refuses (refusal.Debug fault)
+informed_debug elf (Ok info) = printed_within (info_of elf (facts_of info))
+
+abbrev pub informed_elf : Option ElfFault → Elf → Result Information NamesFault → Effect
+informed_elf (Some fault) elf read = refuses (refusal.Executable fault)
+informed_elf None elf read = informed_debug elf read
+
+-- what is told of the bytes of an executable, where its debugging information is read so
+unfoldable pub informed : List ℕ → Result Information NamesFault → Effect
+informed exe read = informed_elf (elf_fault exe) (elf_in exe) read
+
 -- ---- all commands
 
 -- what a command comes to over files with these contents, where what it needs is read so
 abbrev pub effect_with : Command → (contents : List (List ℕ)) → Readings → Effect
 effect_with (queries sql) contents read = judged (content_at contents 0) read
 effect_with (records log) contents read = recorded_run (content_at contents 0) (content_at contents 1) log
+effect_with informs contents read = informed (content_at contents 0) read.debug
 
 -- over files with these contents a command comes to this effect
 pub record Means (command : Command) (contents : List (List ℕ)) (effect : Effect) : Type 0 where

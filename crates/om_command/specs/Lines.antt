@@ -18,7 +18,7 @@ use Rattle.om_command.specs.declared.ending.Ending.TheVariants.{Done, Refused, E
 use Rattle.om_command.specs.declared.refusal.Part.{Part}
 use Rattle.om_command.specs.declared.refusal.Part.TheVariants as part
 use Rattle.om_command.specs.declared.refusal.Refusal.{Refusal}
-use Rattle.om_command.specs.declared.refusal.Refusal.TheVariants.{Unbuilt, Executable, Debug, NoRoom, Log, Overlap, TooLong, LogTooLong, Departs}
+use Rattle.om_command.specs.declared.refusal.Refusal.TheVariants.{Unbuilt, Executable, Debug, NoRoom, Log, Overlap, TooLong, LogTooLong, TooManyBytes, Departs}
 
 -- the exit status of a refusal
 abbrev pub refusal_status : Refusal → ℕ
@@ -30,6 +30,7 @@ refusal_status (Log fault) = 5
 refusal_status (Overlap a b) = 5
 refusal_status (TooLong steps) = 7
 refusal_status (LogTooLong step) = 7
+refusal_status TooManyBytes = 7
 refusal_status (Departs departure) = 6
 
 -- the exit status of an end
@@ -138,6 +139,7 @@ refusal_line (Log fault) = codes "omni: log: " ++ fault_words fault
 refusal_line (Overlap a b) = codes "omni: log: " ++ with_numbers (codes "overlap") (a ∷ b ∷ [])
 refusal_line (TooLong steps) = codes "omni: limit: " ++ decimal steps ++ codes " steps, allowed 4000000"
 refusal_line (LogTooLong step) = codes "omni: limit: " ++ with_numbers (codes "log at step") (step ∷ [])
+refusal_line TooManyBytes = codes "omni: limit: more than 67108864 bytes"
 refusal_line (Departs d) = step_words d.step ++ reason_words d.reason ++ number_words d.told d.found
 
 -- the lines of a file that has more bytes than are read, of one that isn't read and of one that isn't put

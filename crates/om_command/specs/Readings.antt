@@ -7,6 +7,7 @@ use Rattle.om_log.specs.Grammar.{IsLog}
 use Rattle.om_log.specs.Faults.{IsFault}
 use Rattle.om_log.specs.declared.fault.LogFault.{LogFault}
 use Rattle.om_log.specs.declared.log.Log.{Log}
+use Rattle.om_names.specs.Facts.{facts_of}
 use Rattle.om_names.specs.Information.{Information}
 use Rattle.om_names.specs.Stages.{IsLawful, IsRefused}
 use Rattle.om_names.specs.declared.fault.NamesFault.{NamesFault}
@@ -16,7 +17,7 @@ use Rattle.om_parse.specs.declared.tree.Query.{Query}
 use Rattle.om_type.specs.Typing.{IsTyped, Variables}
 use Rattle.om_type.specs.Unbuilt.{IsUnbuilt}
 use Rattle.om_type.specs.declared.typed.Typed.{Typed}
-use Rattle.om_command.specs.Requests.{Command, queries, records}
+use Rattle.om_command.specs.Requests.{Command, informs, queries, records}
 
 -- what is read of a command's files and words
 pub record Readings : Type 0 where
@@ -50,9 +51,10 @@ abbrev pub IsQueryReading : Variables → List ℕ → Option Typed → Type 0
 IsQueryReading catalog text (Some typed) = Asks catalog text typed
 IsQueryReading catalog text None = AsksNothing catalog text
 
--- the variables of an executable: none is named yet
-abbrev pub variables : Variables
-variables = []
+-- the variables that a query may name: those of the debugging information
+abbrev pub variables_of : Result Information NamesFault → Variables
+variables_of (Ok info) = (facts_of info).variables.catalog
+variables_of (Err fault) = []
 
 -- ---- of a command
 
@@ -65,6 +67,7 @@ pub record Needs : Type 0 where
 abbrev pub needs_of : Command → Needs
 needs_of (queries sql) = record { debug = Some 0; log = Some 1; query = Some sql }
 needs_of (records log) = record { debug = None; log = None; query = None }
+needs_of informs = record { debug = Some 0; log = None; query = None }
 
 -- the contents of the file at a place
 abbrev pub content_at : (contents : List (List ℕ)) → (place : ℕ) → List ℕ
@@ -82,4 +85,4 @@ IsLogRead read file = ((i : ℕ) → slice_index file i < 256) → IsLogReading 
 pub record AreReadings (needs : Needs) (contents : List (List ℕ)) (read : Readings) : Type 0 where
   pub debug : IfSome needs.debug (λ place. IsExecutableRead read.debug (content_at contents place))
   pub log : IfSome needs.log (λ place. IsLogRead read.log (content_at contents place))
-  pub query : IfSome needs.query (λ text. IsQueryReading variables text read.query)
+  pub query : IfSome needs.query (λ text. IsQueryReading (variables_of read.debug) text read.query)

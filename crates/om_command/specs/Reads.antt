@@ -5,6 +5,8 @@ use Rattle.om_io.specs.Counts.{Rose}
 use Rattle.om_io.specs.Shelf.{AreSame, FilesByName, NoneFalls, ShelfTold}
 use Rattle.om_elf.specs.declared.fault.ElfFault.{ElfFault}
 use Rattle.om_elf.specs.declared.fault.ElfFault.TheVariants as elf
+use Rattle.om_info.specs.declared.fault.InfoFault.{InfoFault}
+use Rattle.om_info.specs.declared.fault.InfoFault.TheVariants as info
 use Rattle.om_log.specs.declared.fault.LogFault.{LogFault}
 use Rattle.om_log.specs.declared.fault.LogFault.TheVariants as log
 use Rattle.om_names.specs.declared.fault.NamesFault.{NamesFault}
@@ -64,6 +66,10 @@ end_by_elf fault = Refused (refusal.Executable fault)
 abbrev pub end_by_debug : NamesFault → Ending
 end_by_debug names.NoMemory = NoMemory
 end_by_debug fault = Refused (refusal.Debug fault)
+
+abbrev pub end_by_info : InfoFault → Ending
+end_by_info info.NoMemory = NoMemory
+end_by_info info.TooManyBytes = Refused refusal.TooManyBytes
 
 abbrev pub end_by_log : LogFault → Ending
 end_by_log log.NoMemory = NoMemory

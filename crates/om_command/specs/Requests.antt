@@ -7,11 +7,17 @@ pub data Command : Type 0 where
   queries : (sql : List ℕ) → Command
   -- to record the run of an executable with an input, and to put its log under a name
   records : (log : List ℕ) → Command
+  -- to tell what an executable has
+  informs : Command
 
 -- the names of the files that are read, in their order, and what is done with them
 pub record Request : Type 0 where
   pub files : List (List ℕ)
   pub command : Command
+
+-- the request over one file, by the first word
+abbrev pub request_on : (word first : List ℕ) → Option Request
+request_on word first = if bytes_eq word (codes "info") then Some (record { files = first ∷ []; command = informs }) else None
 
 -- the request over two files with a third word, by the first word
 abbrev pub request_by : (word first second third : List ℕ) → Option Request
@@ -22,6 +28,7 @@ request_by word first second third =
 
 -- the request of some words, if they are one
 abbrev pub request_of : List (List ℕ) → Option Request
+request_of (word ∷ first ∷ []) = request_on word first
 request_of (word ∷ first ∷ second ∷ third ∷ []) = request_by word first second third
 request_of words = None
 

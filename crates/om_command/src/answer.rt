@@ -3,7 +3,7 @@
 ghost use Rattle.std.specs.Prelude.{◌≡◌, ◌<◌, ℕ, None, Option, Result, IfOk, slice_index};
 ghost use Rattle.om_command.specs.Answer as spec;
 ghost use Rattle.om_command.specs.Command.{judged, judged_log, judged_overlap, judged_run};
-ghost use Rattle.om_command.specs.Readings.{Readings, IsDebugReading, IsLogReading, IsQueryReading, variables};
+ghost use Rattle.om_command.specs.Readings.{Readings, IsDebugReading, IsLogReading, IsQueryReading, variables_of};
 ghost use Rattle.om_command.specs.Reads as reads;
 ghost use Rattle.om_command.specs.Reads.{GivesText};
 ghost use Rattle.om_elf.specs.Executable.{elf_fault, elf_in};
@@ -105,7 +105,7 @@ fn answer_query<'a>(
 ) -> Result<Text, Ending<'a>>
     requires loadable { AreLoadable elf.now.segments }
     requires lawful { IsLawfulLog log.now }
-    ensures text { (query : Option Typed) → IsQueryReading variables sql.now query
+    ensures text { (query : Option Typed) → IsQueryReading (told_by debug.now).variables.catalog sql.now query
         → GivesText (judged_overlap (overlap_of (regions_of elf.now.segments log.now.start)) elf.now (told_by debug.now) log.now query) result }
 {
     let mut replay = match Replay::start(alloc, elf, log) {
@@ -113,7 +113,7 @@ fn answer_query<'a>(
         Err(MapFault::NoMemory) => return Err(Ending::NoMemory),
         Err(MapFault::Overlap { a, b }) => return Err(Ending::Refused(Refusal::Overlap { a, b })),
     };
-    match read_query(alloc, sql, &Items::new(alloc)) {
+    match read_query(alloc, sql, debug.catalog()) {
         Ok(Some(typed)) => answer_run(alloc, &mut replay, debug, typed),
         Ok(None) => Err(Ending::Refused(Refusal::Unbuilt(Part::Query))),
         Err(_) => Err(Ending::NoMemory),
@@ -141,7 +141,7 @@ fn end_by_log<'a>(fault: LogFault) -> Ending<'a>
 }
 
 /// What a fault of debugging information comes to.
-fn end_by_debug<'a>(fault: NamesFault) -> Ending<'a>
+pub fn end_by_debug<'a>(fault: NamesFault) -> Ending<'a>
     ensures { result ≡ reads.end_by_debug fault }
 {
     match fault {
@@ -160,7 +160,7 @@ fn answer_log<'a>(
 ) -> Result<Text, Ending<'a>>
     requires loadable { AreLoadable elf.now.segments }
     ensures text { (log_read : Result Log LogFault) (query : Option Typed) → IsLogReading log.now log_read
-        → IsQueryReading variables sql.now query → GivesText (judged_log elf.now (told_by debug.now) log_read query) result }
+        → IsQueryReading (told_by debug.now).variables.catalog sql.now query → GivesText (judged_log elf.now (told_by debug.now) log_read query) result }
 {
     match read_log(alloc, log) {
         Ok(log) => answer_query(alloc, elf, debug, &log, sql),
@@ -180,7 +180,7 @@ pub fn answer_text<'a>(
     ensures exe_bytes { (i : ℕ) → slice_index exe.now i < 256 }
     ensures log_bytes { (i : ℕ) → slice_index log.now i < 256 }
     ensures text { (read : Readings) → (elf_fault exe.now ≡ None → IsDebugReading (elf_in exe.now) read.debug)
-        → IsLogReading log.now read.log → IsQueryReading variables sql.now read.query → GivesText (judged exe.now read) result }
+        → IsLogReading log.now read.log → IsQueryReading (variables_of read.debug) sql.now read.query → GivesText (judged exe.now read) result }
 {
     let elf = match read_elf(alloc, exe) {
         Ok(elf) => elf,

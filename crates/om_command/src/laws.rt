@@ -4,7 +4,7 @@
 ghost use Rattle.std.specs.Prelude.{◌≡◌, ◌<◌, ℕ, List, Option, Some, Result, slice_index};
 ghost use Rattle.om_command.specs.Command.{Means};
 ghost use Rattle.om_command.specs.Effect.{Effect};
-ghost use Rattle.om_command.specs.Readings.{IsDebugReading, IsLogReading, IsQueryReading, content_at, variables};
+ghost use Rattle.om_command.specs.Readings.{IsDebugReading, IsLogReading, IsQueryReading, content_at};
 ghost use Rattle.om_command.specs.InMemory.{just_made};
 ghost use Rattle.om_command.specs.Requests.{Command};
 ghost use Rattle.om_command.specs.Result.{AreHeld, IsFaultless, IsFresh};
@@ -14,6 +14,7 @@ ghost use Rattle.om_log.specs.declared.fault.LogFault.{LogFault};
 ghost use Rattle.om_log.specs.declared.log.Log.{Log};
 ghost use Rattle.om_names.specs.Information.{Information};
 ghost use Rattle.om_names.specs.declared.fault.NamesFault.{NamesFault};
+ghost use Rattle.om_type.specs.Typing.{Variables};
 ghost use Rattle.om_type.specs.declared.typed.Typed.{Typed};
 
 /// Every file of bytes, every text and every executable is read in one way: as a log or a fault, as what
@@ -21,10 +22,10 @@ ghost use Rattle.om_type.specs.declared.typed.Typed.{Typed};
 pub fn one_meaning()
     ensures debug { (elf : Elf) → (read : Result Information NamesFault) × IsDebugReading elf read }
     ensures log { (file : List ℕ) → ((i : ℕ) → slice_index file i < 256) → (read : Result Log LogFault) × IsLogReading file read }
-    ensures query { (text : List ℕ) → (read : Option Typed) × IsQueryReading variables text read }
+    ensures query { (variables : Variables) (text : List ℕ) → (read : Option Typed) × IsQueryReading variables text read }
     ensures one_debug { (elf : Elf) (a b : Result Information NamesFault) → IsDebugReading elf a → IsDebugReading elf b → a ≡ b }
     ensures one_log { (file : List ℕ) (a b : Result Log LogFault) → IsLogReading file a → IsLogReading file b → a ≡ b }
-    ensures one_query { (text : List ℕ) (a b : Option Typed) → IsQueryReading variables text a → IsQueryReading variables text b → a ≡ b }
+    ensures one_query { (variables : Variables) (text : List ℕ) (a b : Option Typed) → IsQueryReading variables text a → IsQueryReading variables text b → a ≡ b }
 {
     om_names::one_debug();
     om_log::log_or_fault();

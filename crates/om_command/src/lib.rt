@@ -6,6 +6,7 @@ mod delivery;
 mod ending;
 mod escaping;
 mod faults;
+mod information;
 mod laws;
 mod limits;
 mod lines;

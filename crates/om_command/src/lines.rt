@@ -116,6 +116,7 @@ fn put_words<P: Sink>(sink: &mut P, refusal: &Refusal) -> Result<(), SinkFail>
         Refusal::LogTooLong { step } => {
             put_told(sink, b"omni: limit: ", &Told::number(b"log at step", *step))
         }
+        Refusal::TooManyBytes => put_all(sink, b"omni: limit: more than 67108864 bytes"),
         Refusal::Departs(departure) => put_departure(sink, departure),
     }
 }

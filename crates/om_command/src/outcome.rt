@@ -8,6 +8,7 @@ ghost use Rattle.om_command.specs.Words.{command_by};
 
 use crate::answer::answer_text;
 use crate::ending::Ending;
+use crate::information::told_of;
 use crate::recording::{record_run, summary};
 use crate::words::Command;
 use om_base::{Bytes, Text};
@@ -57,6 +58,10 @@ pub fn outcome_of<'a>(
                 Err(ending) => Err(ending),
             }
         }
+        Command::Info => match told_of(alloc, content(files, 0)) {
+            Ok(text) => Ok(Outcome { text, put: None }),
+            Err(ending) => Err(ending),
+        },
         Command::Record { log } => {
             let recorded = match record_run(alloc, content(files, 0), content(files, 1)) {
                 Ok(recorded) => recorded,

@@ -51,6 +51,8 @@ pub enum Refusal {
         /// The first step with whose entries it would be longer.
         step: u64,
     },
+    /// The text has more bytes than are printed.
+    TooManyBytes,
     /// The run departs from its log.
     Departs(Departure),
 }
@@ -65,7 +67,7 @@ impl Refusal {
             Refusal::Executable(_) | Refusal::NoRoom { .. } => 3,
             Refusal::Debug(_) => 4,
             Refusal::Log(_) | Refusal::Overlap { .. } => 5,
-            Refusal::TooLong { .. } | Refusal::LogTooLong { .. } => 7,
+            Refusal::TooLong { .. } | Refusal::LogTooLong { .. } | Refusal::TooManyBytes => 7,
             Refusal::Departs(_) => 6,
         }
     }

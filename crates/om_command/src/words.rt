@@ -18,6 +18,8 @@ pub enum Command<'a> {
         /// The name under which the log is put.
         log: &'a str,
     },
+    /// To tell what an executable has.
+    Info,
 }
 
 /// What the words ask for.
@@ -33,23 +35,19 @@ pub struct Request<'a> {
 pub fn read_words(words: &[String]) -> Option<Request<'_>>
     ensures { option_map asked_by result ≡ request_of (map string_bytes words.now) }
 {
-    let [word, _, _, third] = words else {
-        return None;
-    };
-    let files = &words[1..3];
-    if word.as_str() == "query" {
-        let sql = third.as_str();
-        return Some(Request {
-            files,
-            command: Command::Query { sql },
-        });
+    match words {
+        [word, _] if word.as_str() == "info" => Some(Request {
+            files: &words[1..2],
+            command: Command::Info,
+        }),
+        [word, _, _, sql] if word.as_str() == "query" => Some(Request {
+            files: &words[1..3],
+            command: Command::Query { sql: sql.as_str() },
+        }),
+        [word, _, _, log] if word.as_str() == "record" => Some(Request {
+            files: &words[1..3],
+            command: Command::Record { log: log.as_str() },
+        }),
+        _ => None,
     }
-    if word.as_str() == "record" {
-        let log = third.as_str();
-        return Some(Request {
-            files,
-            command: Command::Record { log },
-        });
-    }
-    None
 }

@@ -1,7 +1,7 @@
 use Rattle.std.proofs.Common.{◌≡◌, sym, subst, None}
-use Rattle.om_command.proofs.AnswerLemmas.{debug_given, debug_refused, elf_refused, known_fault, known_reading}
+use Rattle.om_command.proofs.AnswerLemmas.{asked_of, debug_given, debug_refused, elf_refused, known_fault, known_reading}
 use Rattle.om_command.specs.Command.{judged_log}
-use Rattle.om_command.specs.Readings.{IsDebugReading}
+use Rattle.om_command.specs.Readings.{IsDebugReading, IsQueryReading, variables_of}
 use Rattle.om_command.specs.Reads.{GivesText}
 use Rattle.om_command.proofs.answer.answer_text.Goals as goal
 use Rattle.om_elf.specs.Executable.{elf_fault}
@@ -25,8 +25,8 @@ pub returns-clause-text : goal.returns-clause-text
 returns-clause-text c =
     let none : elf_fault c.args.exe.now ≡ None = c.in-Ok.ensures.gives.0 in
     λ read debug log query.
-    debug_given c.args.exe.now c.in-Ok-read_debug.debug read c.answer_log.result none
-    (known_reading c.in-Ok.elf c.in-Ok-read_debug.debug read.debug c.in-Ok-read_debug.ensures.reads c.in-Ok-read_debug.ensures.refuses
-    (subst (λ (elf : Elf). IsDebugReading elf read.debug) (sym c.in-Ok.ensures.gives.1) (debug none)))
+    let known = known_reading c.in-Ok.elf c.in-Ok-read_debug.debug read.debug c.in-Ok-read_debug.ensures.reads c.in-Ok-read_debug.ensures.refuses
+        (subst (λ (elf : Elf). IsDebugReading elf read.debug) (sym c.in-Ok.ensures.gives.1) (debug none)) in
+    debug_given c.args.exe.now c.in-Ok-read_debug.debug read c.answer_log.result none known
     (subst (λ (elf : Elf). GivesText (judged_log elf (told_by c.in-Ok-read_debug.debug) read.log read.query) c.answer_log.result) c.in-Ok.ensures.gives.1
-    (c.answer_log.ensures.text read.log read.query log query))
+    (c.answer_log.ensures.text read.log read.query log (asked_of c.args.sql.now c.in-Ok-read_debug.debug read known query)))

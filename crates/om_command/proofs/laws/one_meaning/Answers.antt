@@ -6,7 +6,7 @@ use Rattle.om_names.specs.Information.{Information}
 use Rattle.om_names.specs.declared.fault.NamesFault.{NamesFault}
 use Rattle.om_type.specs.declared.typed.Typed.{Typed}
 use Rattle.om_command.proofs.QueryLemmas.{one_query_of}
-use Rattle.om_command.specs.Readings.{IsDebugReading, IsLogReading, IsQueryReading, variables}
+use Rattle.om_command.specs.Readings.{IsDebugReading, IsLogReading, IsQueryReading}
 use Rattle.om_command.proofs.laws.one_meaning.Goals as goal
 
 pub returns-clause-debug : goal.returns-clause-debug
@@ -41,7 +41,7 @@ returns-clause-log c =
 
 pub returns-clause-query : goal.returns-clause-query
 returns-clause-query c =
-    λ text.
+    λ variables text.
     elim (c.tree_or_refusal.ensures text) as (λ _. (read : Option Typed) × IsQueryReading variables text read) [
       | inl query ↦ elim (c.typing_or_unbuilt.ensures variables query.0) as (λ _. (read : Option Typed) × IsQueryReading variables text read) [
         | inl typed ↦ (Some typed.0, (query.0, query.1, typed.1))
@@ -71,4 +71,4 @@ returns-clause-one_query c =
       either = c.never_both.ensures.of_text;
       typing = c.one_typing.ensures;
       apart = c.never_both-2.ensures;
-    }) variables
+    })

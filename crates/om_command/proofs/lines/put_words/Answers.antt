@@ -16,3 +16,7 @@ returns-in-LogTooLong g c =
     rw c.in-LogTooLong.is
     (subst (λ words. Puts (g.P.Sink.told c.args.sink.now) (g.P.Sink.told c.put_told-in-LogTooLong.new.sink) (codes "omni: limit: " ++ words) c.put_told-in-LogTooLong.result)
     c.number.ensures c.put_told-in-LogTooLong.ensures)
+
+pub returns-in-TooManyBytes : goal.returns-in-TooManyBytes
+unfolding refusal_line
+returns-in-TooManyBytes g c = rw c.in-TooManyBytes.is c.put_all.ensures

@@ -1,0 +1,1 @@
+SELECT step, "counter" FROM states WHERE "counter" = 7

@@ -1,0 +1,1 @@
+SELECT step, file, line, "phase", "ready", "wide", "where" FROM states WHERE "phase" = 2

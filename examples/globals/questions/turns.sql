@@ -1,0 +1,1 @@
+SELECT step, "turns", "tiny", "balance", "far", "letter" FROM states WHERE pc = 0x10208

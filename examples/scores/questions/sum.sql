@@ -1,0 +1,1 @@
+SELECT step, line, "count", "sum", "greatest" FROM states WHERE pc = 0x%x
