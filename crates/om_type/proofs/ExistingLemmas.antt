@@ -44,14 +44,8 @@ unfolding column_names
 all_columns = refl
 
 column_from : (column : ColumnId) → is_column column ≡ true → IsColumn column
-column_from id.Step e = tt
-column_from id.Pc e = tt
-column_from id.Insn e = tt
-column_from id.Func e = tt
-column_from id.File e = tt
-column_from id.Line e = tt
 column_from (id.Reg number) e = grind (arith, e)
-column_from (id.Var place) e = tt
+column_from _ e = tt
 
 each_column : (rows : List (List ℕ × ColumnId)) → list_all (λ (row : List ℕ × ColumnId). is_column row.1) rows ≡ true → All (λ row. IsColumn row.1) rows
 each_column [] pass = All-nil _

@@ -1,0 +1,1 @@
+SELECT step, "count", "sum", "greatest" FROM states WHERE pc = 0x10134
