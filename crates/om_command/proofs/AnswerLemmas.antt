@@ -16,7 +16,7 @@ use Rattle.om_log.specs.declared.log.Log.{Log}
 use Rattle.om_info.specs.Text.{info_of}
 use Rattle.om_info.specs.declared.fault.InfoFault.{InfoFault}
 use Rattle.om_info.specs.declared.fault.InfoFault.TheVariants as info
-use Rattle.om_names.specs.Facts.{Facts, facts_of}
+use Rattle.om_names.specs.Facts.{Facts}
 use Rattle.om_names.specs.Information.{Information}
 use Rattle.om_names.specs.Known.{Known, Knows, told_by}
 use Rattle.om_names.specs.Stages.{IsLawful, IsRefused as HasDebugFault}

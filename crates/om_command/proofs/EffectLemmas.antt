@@ -46,7 +46,7 @@ same_with : OneWay → (command : Command) (contents : List (List ℕ)) (a b : R
     → AreReadings (needs_of command) contents a → AreReadings (needs_of command) contents b → effect_with command contents a ≡ effect_with command contents b
 same_with one (queries sql) contents a b bytes is too =
     let debug : elf_fault (content_at contents 0) ≡ None → a.debug ≡ b.debug =
-        λ none. one.debug (elf_in (content_at contents 0)) a.debug b.debug (is.debug (bytes 0) none) (too.debug (bytes 0) none) in
+    λ none. one.debug (elf_in (content_at contents 0)) a.debug b.debug (is.debug (bytes 0) none) (too.debug (bytes 0) none) in
     same_judged (content_at contents 0) a b debug
     (one.log (content_at contents 1) a.log b.log (is.log (bytes 1)) (too.log (bytes 1)))
     (λ none. one.query (variables_of a.debug) sql a.query b.query is.query

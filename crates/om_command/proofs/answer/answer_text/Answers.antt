@@ -26,7 +26,7 @@ returns-clause-text c =
     let none : elf_fault c.args.exe.now ≡ None = c.in-Ok.ensures.gives.0 in
     λ read debug log query.
     let known = known_reading c.in-Ok.elf c.in-Ok-read_debug.debug read.debug c.in-Ok-read_debug.ensures.reads c.in-Ok-read_debug.ensures.refuses
-        (subst (λ (elf : Elf). IsDebugReading elf read.debug) (sym c.in-Ok.ensures.gives.1) (debug none)) in
+    (subst (λ (elf : Elf). IsDebugReading elf read.debug) (sym c.in-Ok.ensures.gives.1) (debug none)) in
     debug_given c.args.exe.now c.in-Ok-read_debug.debug read c.answer_log.result none known
     (subst (λ (elf : Elf). GivesText (judged_log elf (told_by c.in-Ok-read_debug.debug) read.log read.query) c.answer_log.result) c.in-Ok.ensures.gives.1
     (c.answer_log.ensures.text read.log read.query log (asked_of c.args.sql.now c.in-Ok-read_debug.debug read known query)))
