@@ -1,10 +1,11 @@
 //! What is told of executables: of a worked program, and of one made by hand.
 
-ghost use Rattle.std.specs.Prelude.{◌≡◌, length, All, IfOk};
+ghost use Rattle.std.specs.Prelude.{All, IfOk};
 ghost use Rattle.om_elf.specs.Piece.{IsShort};
 
-use om_base::{Items, MOST_BYTES, Name, NoMemory, Text};
-use om_elf::{Elf, Section, Segment, read_elf};
+use crate::made::section;
+use om_base::{Items, MOST_BYTES, NoMemory, Text};
+use om_elf::{Elf, Segment, read_elf};
 use om_image::{Which, worked};
 use om_info::info_text;
 use om_names::read_debug;
@@ -55,17 +56,6 @@ const VARIABLES: &[u8] = b"\
     \x06\t\\\0\x18\0\0\0\x05\x03\x0c\0\x02\0\
     \0\
     \x07\0\0\0\x05\0\0\0\0\0\x04";
-
-/// A section.
-fn section<'a>(name: &'a [u8], bytes: &'a [u8]) -> Section<'a>
-    ensures { length result.bytes ≡ length bytes.now }
-{
-    Section {
-        index: 1,
-        name: Name::of(name),
-        bytes,
-    }
-}
 
 /// A segment of so many bytes, which are zeros.
 fn segment<'a>(vaddr: u32, memsz: u32) -> Segment<'a> {

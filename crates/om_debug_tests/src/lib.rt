@@ -18,8 +18,12 @@ mod line_tables;
 #[cfg(test)]
 mod lines;
 #[cfg(test)]
+mod made;
+#[cfg(test)]
 mod names;
 #[cfg(test)]
 mod places;
+#[cfg(test)]
+mod variables;
 #[cfg(test)]
 mod view;

@@ -1,11 +1,12 @@
 //! Small executables made by hand: functions and the gaps between them, ranges, links, and range lists
 //! without an end.
 
-ghost use Rattle.std.specs.Prelude.{◌≡◌, length, All, IfOk};
+ghost use Rattle.std.specs.Prelude.{All, IfOk};
 ghost use Rattle.om_elf.specs.Piece.{IsShort};
 
-use om_base::{Items, MOST_BYTES, Name, NoMemory};
-use om_elf::{Elf, Section};
+use crate::made::section;
+use om_base::{Items, MOST_BYTES, NoMemory};
+use om_elf::Elf;
 use om_names::{Debug, NamesFault, read_debug};
 use std::alloc::{AllocError, Global};
 use std::test::Fail;
@@ -44,17 +45,6 @@ fn put_unit(info: &mut Vec<u8>, version: u8, body: &[u8]) -> Result<(), AllocErr
     let length = (body.len() % 200) as u8 + 7;
     info.extend_from_slice(&[length, 0, 0, 0, version, 0, 0, 0, 0, 0, 4])?;
     info.extend_from_slice(body)
-}
-
-/// A section.
-fn section<'a>(name: &'a [u8], bytes: &'a [u8]) -> Section<'a>
-    ensures { length result.bytes ≡ length bytes.now }
-{
-    Section {
-        index: 1,
-        name: Name::of(name),
-        bytes,
-    }
 }
 
 /// An executable with these entries, unless they are too long.

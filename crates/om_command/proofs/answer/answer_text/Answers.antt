@@ -1,7 +1,7 @@
 use Rattle.std.proofs.Common.{◌≡◌, sym, subst, None}
 use Rattle.om_command.proofs.AnswerLemmas.{asked_of, debug_given, debug_refused, elf_refused, known_fault, known_reading}
 use Rattle.om_command.specs.Command.{judged_log}
-use Rattle.om_command.specs.Readings.{IsDebugReading, IsQueryReading, variables_of}
+use Rattle.om_command.specs.Readings.{IsDebugReading}
 use Rattle.om_command.specs.Reads.{GivesText}
 use Rattle.om_command.proofs.answer.answer_text.Goals as goal
 use Rattle.om_elf.specs.Executable.{elf_fault}
