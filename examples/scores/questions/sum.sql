@@ -1,1 +1,0 @@
-SELECT step, line, "count", "sum", "greatest" FROM states WHERE pc = 0x%x
