@@ -12,6 +12,21 @@ const SQL: &str = "SELECT step, a0 FROM states WHERE pc = 65544";
 /// Its answer.
 static ROWS: &[u8] = b"step  a0\n   2   2\n   4   1\n   6   0\nrows 3\n";
 
+/// A query that G answers with the states behind its call.
+static COUNTED: &[&str] = &[
+    "query",
+    "G",
+    "READS",
+    "SELECT step, \"counter\" FROM states WHERE \"counter\" = 7",
+];
+
+/// Its answer.
+static COUNTS: &[u8] = b"step  counter\n   5        7\n   6        7\n   7        7\nrows 3\n";
+
+/// What is told of G.
+static INFO: &[u8] = b"entry 65536\nsegments 2\nunits 1\nskipped 0\nfunctions 0\nvariables 1\n\
+    variable counter -2147483648 2147483647\n";
+
 /// The recording of P.
 static RECORD: &[&str] = &["record", "P", "EMPTY", "NEW"];
 
@@ -48,6 +63,18 @@ fn refused(words: &'static [&'static str], status: u8, told: &'static [u8]) -> C
 fn answers_and_refuses(rt: HostRuntime) -> Result<(), Fail> {
     let cases = [
         plain(QUERY, leaves(0, ROWS, b"")),
+        plain(COUNTED, leaves(0, COUNTS, b"")),
+        // A variable is named in its own letters.
+        refused(
+            &[
+                "query",
+                "G",
+                "READS",
+                "SELECT step FROM states WHERE \"Counter\" = 7",
+            ],
+            11,
+            b"omni: unbuilt: query\n",
+        ),
         refused(
             &["query", "P", "OTHER", SQL],
             6,
@@ -85,6 +112,49 @@ fn answers_and_refuses(rt: HostRuntime) -> Result<(), Fail> {
     ];
     for case in &cases {
         assert!(rt; comes_true(rt.alloc(), case)?, "{:?}", case.words);
+    }
+    Ok(())
+}
+
+#[test]
+fn tells_what_an_executable_has(rt: HostRuntime) -> Result<(), Fail> {
+    let told = plain(&["info", "G"], leaves(0, INFO, b""));
+    let cases = [
+        told,
+        refused(&["info"], 11, b"omni: unbuilt: words\n"),
+        refused(&["info", "G", "READS"], 11, b"omni: unbuilt: words\n"),
+        refused(&["info", "none"], 8, b"omni: read: none\n"),
+        refused(&["info", "WORD"], 3, b"omni: executable: short\n"),
+        Case {
+            failing: &[1],
+            leaves: leaves(8, b"", b"omni: read: G\n"),
+            ..told
+        },
+        // The file is asked for once, and the text is one write where the output takes it whole.
+        Case {
+            failing: &[2],
+            out: (200, &[2]),
+            ..told
+        },
+        Case {
+            out: (200, &[1]),
+            leaves: leaves(9, b"", b"omni: write\n"),
+            ..told
+        },
+        Case {
+            out: (8, &[2]),
+            leaves: leaves(9, b"entry 65", b"omni: write\n"),
+            ..told
+        },
+    ];
+    for case in &cases {
+        assert!(rt;
+            comes_true(rt.alloc(), case)?,
+            "{:?} {:?} {:?}",
+            case.words,
+            case.failing,
+            case.out
+        );
     }
     Ok(())
 }

@@ -29,8 +29,20 @@ static LONG: &[u8; 79] = b"OTL1\x00\x00\xf0\x7f\x00\x00\x10\x00\x00\x10\x01\x00\
     \x00\x00\x00\x00\x00\x00\x00\x00\
     \x03\x40\x4b\x4c\x00\x00\x00\x00\x00\x00\x00\x00\x00\x00";
 
-/// A use of the top call over the files `P` (the program P), `LOG`, `OTHER` and `LONG` (logs of it), `EMPTY` (no
-/// bytes), `WORD` (the text `omni`) and `NEW` (the text `before`).
+/// The log of G: two regions of 1 MiB, the call of step 4 that reads 7 into the four bytes at 131072, the call of
+/// step 6 that exits, and the end at step 7 by that exit. The bytes were put together as those of `LOG`.
+static READS: &[u8; 136] = b"OTL1\x00\x00\xf0\x7f\x00\x00\x10\x00\x00\x10\x02\x00\x00\x00\x10\x00\
+    \x01\x04\x00\x00\x00\x00\x00\x00\x00\x3f\x00\x00\x00\
+    \x00\x00\x00\x00\x00\x00\x02\x00\x04\x00\x00\x00\x00\x00\x00\x00\x00\x00\x00\x00\x00\x00\x00\x00\
+    \x04\x00\x00\x00\x01\x00\x00\x00\
+    \x00\x00\x02\x00\x04\x00\x00\x00\x07\x00\x00\x00\
+    \x01\x06\x00\x00\x00\x00\x00\x00\x00\x5d\x00\x00\x00\
+    \x04\x00\x00\x00\x00\x00\x02\x00\x04\x00\x00\x00\x00\x00\x00\x00\x00\x00\x00\x00\x00\x00\x00\x00\
+    \x00\x00\x00\x00\x00\x00\x00\x00\
+    \x03\x07\x00\x00\x00\x00\x00\x00\x00\x00\x04\x00\x00\x00";
+
+/// A use of the top call over the files `P` (the program P), `LOG`, `OTHER` and `LONG` (logs of it), `G` (the
+/// program G), `READS` (its log), `EMPTY` (no bytes), `WORD` (the text `omni`) and `NEW` (the text `before`).
 #[derive(Clone, Copy)]
 pub struct Case {
     /// The words after the program's own name.
@@ -79,11 +91,14 @@ fn words(alloc: Global, texts: &[&str]) -> Result<Vec<String>, Fail> {
 /// The files that each case begins with.
 fn files(alloc: Global) -> Result<Files, Fail> {
     let program: Bytes = worked(alloc, Which::P)?.elf;
+    let reader: Bytes = worked(alloc, Which::G)?.elf;
     let mut files = Files::new(alloc);
     files.add("P", program.bytes())?;
     files.add("LOG", LOG)?;
     files.add("OTHER", OTHER)?;
     files.add("LONG", LONG)?;
+    files.add("G", reader.bytes())?;
+    files.add("READS", READS)?;
     files.add("EMPTY", b"")?;
     files.add("WORD", b"omni")?;
     files.add("NEW", b"before")?;
