@@ -106,7 +106,7 @@ fn files(alloc: Global) -> Result<Files, Fail> {
 }
 
 /// Whether the top call leaves what the case expects.
-pub fn comes_true(alloc: Global, case: &Case) -> Result<bool, Fail> {
+pub(crate) fn comes_true(alloc: Global, case: &Case) -> Result<bool, Fail> {
     let mut shelf = MemShelf::new(files(alloc)?, calls(alloc, case.failing)?);
     let mut out = MemSink::new(alloc, case.out.0.max(1), calls(alloc, case.out.1)?);
     let mut err = MemSink::new(alloc, 100, calls(alloc, case.err)?);
