@@ -22,6 +22,8 @@ mod made;
 #[cfg(test)]
 mod names;
 #[cfg(test)]
+mod nested_lines;
+#[cfg(test)]
 mod places;
 #[cfg(test)]
 mod variables;

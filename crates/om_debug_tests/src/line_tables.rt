@@ -33,7 +33,7 @@ fn section(alloc: Global) -> Result<Vec<u8>, AllocError> {
 }
 
 /// Reads tables of a section that isn't long.
-fn read<'a>(
+pub(crate) fn read<'a>(
     alloc: Global,
     section: &'a [u8],
     offsets: &[u32],
@@ -45,7 +45,11 @@ fn read<'a>(
 }
 
 /// The files and lines of some addresses: `?` where there is no file, `-` where there is no row.
-fn lines_at(alloc: Global, tables: &LineTables, addresses: &[u32]) -> Result<Vec<u8>, NoMemory> {
+pub(crate) fn lines_at(
+    alloc: Global,
+    tables: &LineTables,
+    addresses: &[u32],
+) -> Result<Vec<u8>, NoMemory> {
     let mut text = Vec::new(alloc);
     for pc in addresses {
         let name = match tables.file_at(*pc) {

@@ -5,3 +5,7 @@ pub mod RunLemmas
 pub mod RowLemmas
 pub mod TableLemmas
 pub mod LawLemmas
+pub mod ShiftLemmas
+pub mod CoverLemmas
+pub mod OpeningLemmas
+pub mod SharingLemmas

@@ -1,8 +1,8 @@
 -- What is left behind what is read: no more bytes than before, and fewer behind an instruction or a file.
-use Rattle.std.proofs.Common.{◌≡◌, ℕ, zero, suc, ◌+◌, ◌-◌, ◌<◌, ◌≤◌, Bool, true, false, cond, eqb, leb, List, [], ◌∷◌, ◌++◌, length, take, drop, Option, Some, None, Ok, Err, refl, ap, arith}
+use Rattle.std.proofs.Common.{◌≡◌, ℕ, zero, suc, ◌+◌, ◌-◌, ◌<◌, ◌≤◌, Bool, true, false, cond, eqb, leb, List, [], ◌∷◌, ◌++◌, length, take, drop, Option, Some, None, Ok, Err, append_assoc, refl, sym, ap, ◌∙◌, arith}
 use Rattle.std.specs.Prelude.{Result}
 use Rattle.std.specs.Result.{result_map_both}
-use Rattle.std.proofs.lemmas.List.{length-append, length-drop}
+use Rattle.std.proofs.lemmas.List.{length-append, length-drop, take-append-drop}
 use Rattle.om_base.specs.Leb.{result_then, sleb_of, uleb_of}
 use Rattle.om_base.specs.Reading.{Reader, first_then, number_of, second_after, text_of, with_rest}
 use Rattle.om_base.specs.declared.numbers.Num.{Num}
@@ -13,6 +13,7 @@ use Rattle.om_line.specs.Fields.{behind_numbers, broken, by, fixed, signed, text
 use Rattle.om_line.specs.Files.{file_or_end, unless_empty}
 use Rattle.om_line.specs.Head.{Head}
 use Rattle.om_line.specs.Instructions.{by_opcode, extended_by, extended_of, instruction_in, plain, standard, unknown}
+use Rattle.om_line.specs.Sharing.{IsEnd}
 use Rattle.om_line.specs.declared.fields.Broken.{Broken}
 use Rattle.om_line.specs.declared.instruction.Instruction.{Instruction}
 use Rattle.om_line.specs.declared.instruction.Instruction.TheVariants as i
@@ -179,3 +180,88 @@ unfolding file_or_end
 file_behind bytes x is =
     let name = file_by (text bytes) x is in
     omega (arith, text_behind bytes name.0.0 name.0.1 name.1, unless_short name.0.0 name.0.1 x name.2)
+
+-- ---- what is left is the end of what there was
+
+abbrev Ends : {A : Type 0} → Reader A Broken → Type 0
+Ends {A} read = (bytes : List ℕ) (x : A) (rest : List ℕ) → read bytes ≡ Ok (x, rest) → IsEnd bytes rest
+
+pub whole_end : (bytes rest : List ℕ) → bytes ≡ rest → IsEnd bytes rest
+whole_end bytes rest same = ([], same)
+
+pub further_end : (bytes middle rest : List ℕ) → IsEnd bytes middle → IsEnd middle rest → IsEnd bytes rest
+further_end bytes middle rest one other = (one.0 ++ other.0, one.1 ∙ ap (λ m. one.0 ++ m) other.1 ∙ sym (append_assoc one.0 other.0 rest))
+
+unsigned_end : Ends unsigned
+unfolding unsigned
+unsigned_end bytes n rest is = let read = uleb_reads.takes bytes n rest (failing_ok (with_rest uleb_of bytes) (n, rest) is) in (read.0, read.1)
+
+signed_end : Ends signed
+unfolding signed
+signed_end bytes z rest is = let read = sleb_reads.takes bytes z rest (failing_ok (with_rest sleb_of bytes) (z, rest) is) in (read.0, read.1)
+
+fixed_end : (width : ℕ) → Ends (fixed width)
+unfolding fixed
+fixed_end width bytes n rest is = let read = (number_reads width).takes bytes n rest (failing_ok (with_rest (number_of width) bytes) (n, rest) is) in (read.0, read.1)
+
+by_end : {A B : Type 0} (f : A → B) (read : Reader A Broken) → Ends read → Ends (by f read)
+by_end f read ends bytes y rest is = let x = by_ok f (read bytes) y rest is in ends bytes x.0 rest x.1
+
+numbers_end : (count : ℕ) (bytes rest : List ℕ) → behind_numbers count bytes ≡ Ok rest → IsEnd bytes rest
+unfolding behind_numbers
+numbers_end zero bytes rest is = let same : bytes ≡ rest = cc in whole_end bytes rest same
+numbers_end (suc count) bytes rest is =
+    let x = behind_more count (unsigned bytes) rest is in
+    further_end bytes x.0.1 rest (unsigned_end bytes x.0.0 x.0.1 x.1) (numbers_end count x.0.1 rest x.2)
+
+plain_end : (instruction : Instruction) → Ends (plain instruction)
+plain_end instruction bytes x rest is = whole_end bytes rest (ok_rest {A = Instruction} {E = Broken} (instruction, bytes) (x, rest) is)
+
+unknown_end : (count : ℕ) → Ends (unknown count)
+unknown_end count bytes x rest is = numbers_end count bytes rest (unknown_ok (behind_numbers count bytes) x rest is)
+
+end_by : (b : Bool) (one other : Reader Instruction Broken) → Ends one → Ends other → Ends (cond b one other)
+end_by true one other first second = first
+end_by false one other first second = second
+
+standard_end : (head : Head) (opcode : ℕ) → Ends (standard head opcode)
+unfolding standard
+standard_end head opcode =
+    end_by (eqb 1 opcode) _ _ (plain_end i.Copy)
+    (end_by (eqb 2 opcode) _ _ (by_end i.AdvancePc unsigned unsigned_end)
+    (end_by (eqb 3 opcode) _ _ (by_end i.AdvanceLine signed signed_end)
+    (end_by (eqb 4 opcode) _ _ (by_end i.SetFile unsigned unsigned_end)
+    (end_by (eqb 5 opcode) _ _ (by_end (λ _. i.Nothing) unsigned unsigned_end)
+    (end_by (eqb 6 opcode) _ _ (plain_end i.Nothing)
+    (end_by (eqb 7 opcode) _ _ (plain_end i.Nothing)
+    (end_by (eqb 8 opcode) _ _ (plain_end i.ConstAddPc)
+    (end_by (eqb 9 opcode) _ _ (by_end i.FixedAdvancePc (fixed 2) (fixed_end 2))
+    (end_by (eqb 10 opcode) _ _ (plain_end i.Nothing)
+    (end_by (eqb 11 opcode) _ _ (plain_end i.Nothing)
+    (end_by (eqb 12 opcode) _ _ (by_end (λ _. i.Nothing) unsigned unsigned_end)
+    (unknown_end _))))))))))))
+
+extended_end_test : (b : Bool) (o : Result Instruction Broken) (behind bytes : List ℕ) (x : Instruction) (rest : List ℕ) → IsEnd bytes behind
+    → ◌≡◌ {A = Result (Instruction × List ℕ) Broken} (cond b (result_map_both (λ instruction. (instruction, behind)) (λ e. e) o) (Err broken)) (Ok (x, rest)) → IsEnd bytes rest
+extended_end_test true o behind bytes x rest ends is = further_end bytes behind rest ends (whole_end behind rest (extended_ok o behind x rest is))
+extended_end_test false o behind bytes x rest ends is = absurd cc
+
+extended_end : (size : ℕ) → Ends (extended_of size)
+unfolding extended_of
+extended_end size bytes x rest is =
+    extended_end_test (leb size (length bytes)) (extended_by (take size bytes)) (drop size bytes) bytes x rest (take size bytes, sym (take-append-drop size bytes)) is
+
+opcode_end : (special zero_ : Bool) (head : Head) (opcode : ℕ) → Ends (cond special (plain (i.Special (opcode - head.opcode_base))) (cond zero_ (first_then unsigned extended_of) (standard head opcode)))
+opcode_end true zero_ head opcode bytes x rest is = plain_end (i.Special (opcode - head.opcode_base)) bytes x rest is
+opcode_end false true head opcode bytes x rest is =
+    let size = second_ok extended_of (unsigned bytes) x rest is in
+    further_end bytes size.0.1 rest (unsigned_end bytes size.0.0 size.0.1 size.1) (extended_end size.0.0 size.0.1 x rest size.2)
+opcode_end false false head opcode bytes x rest is = standard_end head opcode bytes x rest is
+
+-- what stands behind an instruction is the end of what there was
+pub instruction_end : (head : Head) (bytes : List ℕ) (x : Instruction) (rest : List ℕ) → instruction_in head bytes ≡ Ok (x, rest) → IsEnd bytes rest
+unfolding instruction_in
+instruction_end head bytes x rest is =
+    let opcode = second_ok (by_opcode head) (fixed 1 bytes) x rest is in
+    further_end bytes opcode.0.1 rest (fixed_end 1 bytes opcode.0.0 opcode.0.1 opcode.1)
+    (opcode_end (leb head.opcode_base opcode.0.0) (eqb opcode.0.0 0) head opcode.0.0 opcode.0.1 x rest opcode.2)

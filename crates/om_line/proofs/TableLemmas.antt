@@ -18,6 +18,7 @@ use Rattle.om_line.specs.Claims.{claims_of}
 use Rattle.om_line.specs.Gathering.{file_place, kept_row, nothing, with_table, with_tables}
 use Rattle.om_line.specs.Kept.{lines_told_by}
 use Rattle.om_line.specs.Lines.{ranged, row_at}
+use Rattle.om_line.specs.Sharing.{IsGathered}
 use Rattle.om_line.specs.Tables.{LineFacts, found_at, line_facts, name_of}
 use Rattle.om_line.specs.declared.gathering.Gathered.{Gathered}
 use Rattle.om_line.specs.declared.gathering.KeptRow.{KeptRow}
@@ -186,7 +187,7 @@ facts_by : (ℕ → Option LineRow) → (ℕ → Option (List ℕ)) → LineFact
 facts_by lines files = record { line_at = lines; file_at = files }
 
 -- what is gathered of some tables, with the index of what its rows claim, tells what they do
-pub tables_told : (tables : List Lines) (gathered : Gathered) (claims : List Claim) (pieces : List Piece) → gathered ≡ with_tables nothing tables → claims ≡ gathered.claims → IsIndexOf claims pieces
+tables_told : (tables : List Lines) (gathered : Gathered) (claims : List Claim) (pieces : List Piece) → gathered ≡ with_tables nothing tables → claims ≡ gathered.claims → IsIndexOf claims pieces
     → lines_told_by (record { rows = gathered.rows; files = gathered.files; pieces = pieces }) ≡ line_facts tables
 unfolding lines_told_by line_facts facts_by
 tables_told tables gathered claims pieces is same index =
@@ -204,9 +205,14 @@ tables_told tables gathered claims pieces is same index =
     ap (λ h. facts_by h (λ pc. option_and_then (λ found. option_and_then (slice_get gathered.files) found.file) (option_and_then (slice_get gathered.rows) (owner_in pieces pc)))) (fun_ext lines_are)
     ∙ ap (facts_by (λ pc. option_map (λ x. x.1) (found_at tables pc))) (fun_ext files_are)
 
--- ---- table by table
+-- tables that tell the same of each address
+pub facts_same : (tables others : List Lines) → ((pc : ℕ) → found_at others pc ≡ found_at tables pc) → line_facts tables ≡ line_facts others
+unfolding line_facts facts_by
+facts_same tables others same =
+    ap (λ h. facts_by h (λ pc. option_and_then (λ x. name_of x.0 x.1) (found_at tables pc))) (fun_ext (λ pc. ap (option_map (λ x. x.1)) (sym (same pc))))
+    ∙ ap (facts_by (λ pc. option_map (λ x. x.1) (found_at others pc))) (fun_ext (λ pc. ap (option_and_then (λ x. name_of x.0 x.1)) (sym (same pc))))
 
-pub one_more_table : (tables rest others : List Lines) (gathered more : Gathered) (table : Lines) → with_tables nothing tables ≡ with_tables gathered rest → rest ≡ table ∷ others → more ≡ with_table gathered table
-    → with_tables nothing tables ≡ with_tables more others
-unfolding with_tables
-one_more_table tables rest others gathered more table so_far next is = so_far ∙ ap (with_tables gathered) next ∙ ap (λ g. with_tables g others) (sym is)
+-- what is gathered tells what all tables do
+pub gathered_told : (others : List Lines) (gathered : Gathered) (claims : List Claim) (pieces : List Piece) → IsGathered others gathered → claims ≡ gathered.claims → IsIndexOf claims pieces
+    → lines_told_by (record { rows = gathered.rows; files = gathered.files; pieces = pieces }) ≡ line_facts others
+gathered_told others gathered claims pieces is same index = tables_told is.tables gathered claims pieces is.gathered_is same index ∙ facts_same is.tables others is.same

@@ -9,4 +9,6 @@ pub mod Claims
 pub mod Tables
 pub mod Gathering
 pub mod Kept
+pub mod Opening
+pub mod Sharing
 pub mod Laws

@@ -1,5 +1,8 @@
 //! What the instructions of a line program do: DWARF 4, sections 6.2.5.1 to 6.2.5.3.
 
+ghost use Rattle.std.specs.Prelude.{◌≡◌};
+ghost use Rattle.om_line.specs.Sharing as spec;
+
 use om_base::Name;
 
 /// An instruction of a line program.
@@ -28,4 +31,24 @@ pub enum Instruction<'a> {
     DefineFile(Name<'a>),
     /// One that says nothing of addresses, lines and files.
     Nothing,
+}
+
+impl Instruction<'_> {
+    /// Whether the address after it depends on the one before it, by how far it grows.
+    pub fn is_relative(&self) -> bool
+        ensures { result ≡ spec.is_relative self.now }
+    {
+        match self {
+            Instruction::EndSequence | Instruction::SetAddress(_) => false,
+            Instruction::Special(_)
+            | Instruction::Copy
+            | Instruction::AdvancePc(_)
+            | Instruction::AdvanceLine(_)
+            | Instruction::SetFile(_)
+            | Instruction::ConstAddPc
+            | Instruction::FixedAdvancePc(_)
+            | Instruction::DefineFile(_)
+            | Instruction::Nothing => true,
+        }
+    }
 }

@@ -1,10 +1,11 @@
 //! Laws of line programs. They have no code of their own.
 
-ghost use Rattle.std.specs.Prelude.{◌≡◌, ◌<◌, ◌+◌, ◌*◌, ◌+ℤ◌, ◌++◌, ℕ, List, pos};
+ghost use Rattle.std.specs.Prelude.{◌≡◌, ◌<◌, ◌+◌, ◌*◌, ◌+ℤ◌, ◌++◌, ℕ, List, map, pos, true};
 ghost use Rattle.om_line.specs.Head.{Head};
 ghost use Rattle.om_line.specs.Instructions.{broken_in, instructions_in};
 ghost use Rattle.om_line.specs.Laws.{Fill, StandBefore};
-ghost use Rattle.om_line.specs.Running.{advanced, after_special, grown};
+ghost use Rattle.om_line.specs.Running.{advanced, after_special, grown, rows_from};
+ghost use Rattle.om_line.specs.Sharing.{are_relative, lower};
 ghost use Rattle.om_line.specs.declared.instruction.Instruction.{Instruction};
 ghost use Rattle.om_line.specs.declared.registers.Registers.{Registers};
 
@@ -28,4 +29,12 @@ pub fn common_end()
 pub fn special_opcodes()
     ensures { (head : Head) (registers : Registers) (growth advance : ℕ) → growth < head.line_range
         → after_special head (growth + head.line_range * advance) registers ≡ grown (head.line_base +ℤ pos growth) (advanced head advance registers) }
+{}
+
+/// The same instructions from another address make the same rows, but as much lower, modulo 2^32, as they
+/// begin, where none of them sets the address or ends a sequence.
+pub fn lower_rows()
+    ensures { (head : Head) (by : ℕ) (a b : Registers) (instructions : List Instruction) → are_relative instructions ≡ true
+        → b.address ≡ lower by a.address
+        → map (λ row. row.addr) (rows_from head b instructions) ≡ map (λ row. lower by row.addr) (rows_from head a instructions) }
 {}

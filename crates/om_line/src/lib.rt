@@ -13,11 +13,13 @@ mod lines;
 mod reading;
 mod registers;
 mod row;
+mod sharing;
+mod start;
 mod table;
 mod tables;
 
 pub use fault::LineFault;
-pub use laws::{common_end, instructions_in_turn, special_opcodes};
+pub use laws::{common_end, instructions_in_turn, lower_rows, special_opcodes};
 pub use lines::Lines;
 pub use row::LineRow;
 pub use table::{LineTable, read_lines};

@@ -1,11 +1,12 @@
 //! The rows and files of a line table: DWARF 4, section 6.2.
 
-ghost use Rattle.std.specs.Prelude.{◌≡◌, ◌≢◌, ◌⊎◌, ◌+◌, ◌-◌, ◌≤◌, ◌<◌, ◌^◌, ◌++◌, length, Some, None, IfOk, IfErr, OnOk, option_to_list};
+ghost use Rattle.std.specs.Prelude.{◌≡◌, ◌≢◌, ◌⊎◌, ◌+◌, ◌-◌, ◌≤◌, ◌<◌, ◌^◌, ◌&&◌, [], ◌∷◌, ◌++◌, length, All, Some, None, IfOk, IfErr, OnOk, option_to_list};
 ghost use Rattle.std.specs.Option.{option_map};
 ghost use Rattle.om_line.specs.Claims.{claims_of};
 ghost use Rattle.om_line.specs.Instructions.{broken_in, instructions_in};
 ghost use Rattle.om_line.specs.Lines as spec;
 ghost use Rattle.om_line.specs.Running.{after, begin, files_from, made, named, rows_from};
+ghost use Rattle.om_line.specs.Sharing.{IsStart, are_relative, is_relative};
 
 use crate::decoding::instruction_in;
 use crate::fault::LineFault;
@@ -13,6 +14,7 @@ use crate::head::Head;
 use crate::instruction::Instruction;
 use crate::registers::Registers;
 use crate::row::LineRow;
+use crate::start::Start;
 use om_base::{Items, Name, NoMemory, Span};
 use om_claims::Claim;
 use std::alloc::Global;
@@ -26,22 +28,42 @@ pub struct Lines<'a> {
     pub files: Items<Name<'a>>,
 }
 
+/// What a line program makes, and where its instructions stand.
+#[derive(Debug, Drop)]
+pub struct Ran<'a> {
+    pub lines: Lines<'a>,
+    /// The instructions, first to last.
+    pub starts: Items<Start>,
+    /// Whether none of them sets the address or ends a sequence.
+    pub is_relative: bool,
+}
+
 /// A line program that runs.
 #[derive(Debug, Drop)]
 struct Running<'a> {
     registers: Registers,
     rows: Items<LineRow>,
     files: Items<Name<'a>>,
+    starts: Items<Start>,
+    is_relative: bool,
 }
 
 impl<'a> Running<'a> {
-    /// Runs an instruction.
-    fn run(&mut self, head: &Head, instruction: Instruction<'a>) -> Result<(), NoMemory>
+    /// Runs an instruction, from which so many bytes are left to the program's end.
+    fn run(&mut self, head: &Head, rest: u32, instruction: Instruction<'a>) -> Result<(), NoMemory>
         requires { head.now.line_range ≢ 0 }
         ensures registers { OnOk result (self.new.registers ≡ after head.now self.old.registers instruction.entry) }
         ensures rows { OnOk result (self.new.rows ≡ self.old.rows ++ option_to_list (made head.now self.old.registers instruction.entry)) }
         ensures files { OnOk result (self.new.files ≡ self.old.files ++ option_to_list (named instruction.entry)) }
+        ensures starts { OnOk result (self.new.starts ≡ self.old.starts ++ record { rest = rest; address = self.old.registers.address; rows = length self.old.rows } ∷ []) }
+        ensures relative { OnOk result (self.new.is_relative ≡ (self.old.is_relative && is_relative instruction.entry)) }
     {
+        self.starts.push(Start {
+            rest,
+            address: self.registers.address,
+            rows: self.rows.len(),
+        })?;
+        self.is_relative = self.is_relative && instruction.is_relative();
         if let Some(row) = self.registers.made(head, &instruction) {
             self.rows.push(row)?;
         }
@@ -53,20 +75,21 @@ impl<'a> Running<'a> {
     }
 }
 
-/// The rows and files of a program, with the files before it. The program ends at the offset `end` of
-/// its section.
+/// What a program makes, with the files before it. The program ends at the offset `end` of its section.
 pub fn run<'a>(
     alloc: Global,
     head: &Head<'a>,
     files: Items<Name<'a>>,
     end: u32,
     program: &'a [u8],
-) -> Result<Lines<'a>, LineFault>
+) -> Result<Ran<'a>, LineFault>
     requires range { head.now.line_range ≢ 0 }
     requires end { length program.now ≤ end }
-    ensures whole { IfOk result (λ lines. broken_in head.now program.now ≡ None) }
-    ensures rows { IfOk result (λ lines. lines.rows ≡ rows_from head.now begin (instructions_in head.now program.now)) }
-    ensures files { IfOk result (λ lines. lines.files ≡ files.entry ++ files_from (instructions_in head.now program.now)) }
+    ensures whole { IfOk result (λ ran. broken_in head.now program.now ≡ None) }
+    ensures rows { IfOk result (λ ran. ran.lines.rows ≡ rows_from head.now begin (instructions_in head.now program.now)) }
+    ensures files { IfOk result (λ ran. ran.lines.files ≡ files.entry ++ files_from (instructions_in head.now program.now)) }
+    ensures starts { IfOk result (λ ran. All (IsStart head.now program.now) ran.starts) }
+    ensures relative { IfOk result (λ ran. ran.is_relative ≡ are_relative (instructions_in head.now program.now)) }
     ensures fault { IfErr result (λ fault. (fault ≡ LineFault.NoMemory)
         ⊎ (option_map (λ rest. LineFault.Opcode (end - length rest)) (broken_in head.now program.now) ≡ Some fault)) }
 {
@@ -74,6 +97,8 @@ pub fn run<'a>(
         registers: Registers::begin(),
         rows: Items::new(alloc),
         files,
+        starts: Items::new(alloc),
+        is_relative: true,
     };
     let mut rest = program;
     while !rest.is_empty() {
@@ -81,12 +106,16 @@ pub fn run<'a>(
             let at = end - rest.len() as u32;
             return Err(LineFault::Opcode { at });
         };
-        running.run(head, instruction)?;
+        running.run(head, rest.len() as u32, instruction)?;
         rest = behind;
     }
-    Ok(Lines {
-        rows: running.rows,
-        files: running.files,
+    Ok(Ran {
+        lines: Lines {
+            rows: running.rows,
+            files: running.files,
+        },
+        starts: running.starts,
+        is_relative: running.is_relative,
     })
 }
 

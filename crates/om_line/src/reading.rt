@@ -1,10 +1,11 @@
 //! Reads the line table at an offset of `.debug_line`: DWARF 4, section 6.2.4.
 
 ghost use Rattle.std.specs.Prelude.{◌≡◌, ◌≢◌, ◌⊎◌, ◌+◌, ◌<◌, ◌≤◌, ◌^◌, if◌then◌else◌, nat_le, length, drop, Some, None, IfOk, IfErr};
-ghost use Rattle.std.specs.Option.{option_copied, option_or};
+ghost use Rattle.std.specs.Option.{option_copied};
 ghost use Rattle.om_line.specs.Files.{head_files};
 ghost use Rattle.om_line.specs.Heads.{head_of, header_length, is_lawful};
 ghost use Rattle.om_line.specs.Lines as spec;
+ghost use Rattle.om_line.specs.Opening.{IsTable, head_fault};
 
 use crate::fault::LineFault;
 use crate::files::head_files;
@@ -13,12 +14,15 @@ use crate::lines::{Lines, run};
 use om_base::{Items, Name};
 use std::alloc::Global;
 
-/// The parts of a table.
-struct Parts<'a> {
-    head: Head<'a>,
+/// A table of which the head was read.
+#[derive(Debug, Drop)]
+pub struct Table<'a> {
+    pub head: Head<'a>,
     /// The files that the head tells of.
-    files: Items<Name<'a>>,
-    program: &'a [u8],
+    pub files: Items<Name<'a>>,
+    pub program: &'a [u8],
+    /// Where it ends in its section, and its program too.
+    pub end: u32,
 }
 
 /// The program of a table, if it begins in the table.
@@ -28,14 +32,17 @@ fn program_in(table: &[u8]) -> Option<&[u8]>
     table.get(10 + header_length(table) as usize..)
 }
 
-/// The parts of the table that begins at `at`.
+/// The table of these bytes, which begin at `at`.
 #[tactic(auto, unfolding(crate::specs::Lines::header_fault, crate::specs::Heads::head_in))]
-fn parts_of<'a>(alloc: Global, at: u32, table: &'a [u8]) -> Result<Parts<'a>, LineFault>
-    ensures head { IfOk result (λ parts. parts.head ≡ head_of table.now) }
-    ensures range { IfOk result (λ parts. parts.head.line_range ≢ 0) }
-    ensures files { IfOk result (λ parts. head_files (spec.behind_head table.now) ≡ Some parts.files) }
-    ensures program { IfOk result (λ parts. parts.program.now ≡ spec.program_of table.now) }
-    ensures lawful { IfOk result (λ parts. spec.header_fault at table.now ≡ None) }
+fn table_of<'a>(alloc: Global, at: u32, table: &'a [u8]) -> Result<Table<'a>, LineFault>
+    requires { at + length table.now < 2 ^ 32 }
+    ensures head { IfOk result (λ it. it.head ≡ head_of table.now) }
+    ensures range { IfOk result (λ it. it.head.line_range ≢ 0) }
+    ensures files { IfOk result (λ it. head_files (spec.behind_head table.now) ≡ Some it.files) }
+    ensures program { IfOk result (λ it. it.program.now ≡ spec.program_of table.now) }
+    ensures begins { IfOk result (λ it. 10 + header_length table.now ≤ length table.now) }
+    ensures end { IfOk result (λ it. it.end ≡ at + length table.now) }
+    ensures lawful { IfOk result (λ it. spec.header_fault at table.now ≡ None) }
     ensures fault { IfErr result (λ fault. (fault ≡ LineFault.NoMemory) ⊎ (spec.header_fault at table.now ≡ Some fault)) }
 {
     let Some((head, rest)) = head_in(table) else {
@@ -50,47 +57,59 @@ fn parts_of<'a>(alloc: Global, at: u32, table: &'a [u8]) -> Result<Parts<'a>, Li
     if !head.is_lawful() {
         return Err(LineFault::Header { at });
     }
-    Ok(Parts {
+    let end = at + table.len() as u32;
+    Ok(Table {
         head,
         files,
         program,
+        end,
     })
 }
 
-/// The lines of the table that begins at `at`.
-#[tactic(auto, unfolding(crate::specs::Lines::opcode_fault, crate::specs::Lines::lines_of))]
-fn lines_of<'a>(alloc: Global, at: u32, table: &'a [u8]) -> Result<Lines<'a>, LineFault>
-    requires { at + length table.now < 2 ^ 32 }
-    ensures lines { IfOk result (λ lines. lines ≡ spec.lines_of table.now) }
-    ensures header { IfOk result (λ lines. spec.header_fault at table.now ≡ None) }
-    ensures opcodes { IfOk result (λ lines. spec.opcode_fault at table.now ≡ None) }
-    ensures fault { IfErr result (λ fault. (fault ≡ LineFault.NoMemory)
-        ⊎ (option_or (spec.header_fault at table.now) (spec.opcode_fault at table.now) ≡ Some fault)) }
+/// The bytes of a section from an offset on, none behind its end.
+fn from_offset(section: &[u8], at: u32) -> &[u8]
+    ensures { result.now ≡ drop at section.now }
 {
-    let Parts {
-        head,
-        files,
-        program,
-    } = parts_of(alloc, at, table)?;
-    run(alloc, &head, files, at + table.len() as u32, program)
+    section.get(at as usize..).unwrap_or(&[])
+}
+
+/// The table that begins at the offset `at` of the section `.debug_line`.
+pub fn table_at<'a>(alloc: Global, section: &'a [u8], at: u32) -> Result<Table<'a>, LineFault>
+    requires { length section.now < 2 ^ 32 }
+    ensures table { IfOk result (λ table. IsTable section.now at table) }
+    ensures fault { IfErr result (λ fault. (fault ≡ LineFault.NoMemory) ⊎ (head_fault section.now at ≡ Some fault)) }
+{
+    let bytes = from_offset(section, at);
+    if let Some(fault) = table_fault(at, bytes) {
+        return Err(fault);
+    }
+    let length = 4 + unit_length(bytes) as usize;
+    table_of(alloc, at, &bytes[..length])
 }
 
 impl<'a> Lines<'a> {
     /// Reads the table that begins at the offset `at` of the section `.debug_line`.
     ///
     /// Takes time and memory in the size of the table: no count that it tells is believed.
-    #[tactic(auto, unfolding(crate::specs::Lines::line_fault))]
     pub fn read(alloc: Global, section: &'a [u8], at: u32) -> Result<Lines<'a>, LineFault>
         requires { length section.now < 2 ^ 32 }
         ensures lines { IfOk result (λ lines. lines ≡ spec.lines_at section.now at) }
         ensures lawful { IfOk result (λ lines. spec.fault_at section.now at ≡ None) }
         ensures fault { IfErr result (λ fault. (fault ≡ LineFault.NoMemory) ⊎ (spec.fault_at section.now at ≡ Some fault)) }
     {
-        let bytes = section.get(at as usize..).unwrap_or(&[]);
-        if let Some(fault) = table_fault(at, bytes) {
-            return Err(fault);
+        let table = match table_at(alloc, section, at) {
+            Ok(table) => table,
+            Err(fault) => return Err(fault),
+        };
+        let Table {
+            head,
+            files,
+            program,
+            end,
+        } = table;
+        match run(alloc, &head, files, end, program) {
+            Ok(ran) => Ok(ran.lines),
+            Err(fault) => Err(fault),
         }
-        let length = 4 + unit_length(bytes) as usize;
-        lines_of(alloc, at, &bytes[..length])
     }
 }

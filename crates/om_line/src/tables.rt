@@ -1,14 +1,18 @@
 //! The line tables at some offsets of `.debug_line`, asked as one.
 
-ghost use Rattle.std.specs.Prelude.{◌≡◌, ◌⊎◌, ◌<◌, ◌^◌, length, Some, None, IfOk, IfErr};
-ghost use Rattle.om_line.specs.Gathering.{nothing, with_tables};
+ghost use Rattle.std.specs.Prelude.{◌≡◌, ◌≢◌, ◌⊎◌, ◌<◌, ◌≤◌, ◌^◌, ℕ, List, length, Some, None, IfOk, IfErr, IsTrue};
+ghost use Rattle.om_line.specs.Lines.{fault_at};
+ghost use Rattle.om_line.specs.Opening.{IsTable};
+ghost use Rattle.om_line.specs.Sharing.{Adds, Covered, IsGathered};
 ghost use Rattle.om_line.specs.Kept.{kept_at, lines_told_by};
 ghost use Rattle.om_line.specs.Tables.{line_facts, tables_at, tables_fault};
 
 use crate::fault::LineFault;
 use crate::gathering::{Gathered, KeptRow};
-use crate::lines::Lines;
+use crate::lines::run;
+use crate::reading::{Table, table_at};
 use crate::row::LineRow;
+use crate::sharing::Shared;
 use om_base::{Items, Name};
 use om_claims::{ClaimIndex, index_of};
 use std::alloc::Global;
@@ -36,22 +40,64 @@ impl<'a> Model for LineTables<'a> {
     ghost invariant = { λ it. AreIndex it.index };
 }
 
-/// What is kept of the tables at some offsets.
-#[tactic(auto, unfolding(crate::specs::Gathering::with_tables))]
+/// Runs the program of a table and adds what it makes. What others may share of it is answered.
+fn add_table<'a>(
+    alloc: Global,
+    gathered: &mut Gathered<'a>,
+    table: Table<'a>,
+) -> Result<Option<Shared<'a>>, LineFault>
+    requires range { table.head.line_range ≢ 0 }
+    requires short { length table.program.now ≤ table.end }
+    ensures adds { (section : List ℕ) (at : ℕ) → IsTable section at table.entry
+        → IfOk result (λ shared. Adds section at gathered.old gathered.new shared) }
+    ensures fault { (section : List ℕ) (at : ℕ) → IsTable section at table.entry
+        → IfErr result (λ fault. (fault ≡ LineFault.NoMemory) ⊎ (fault_at section at ≡ Some fault)) }
+{
+    let Table {
+        head,
+        files,
+        program,
+        end,
+    } = table;
+    let ran = match run(alloc, &head, files, end, program) {
+        Ok(ran) => ran,
+        Err(fault) => return Err(fault),
+    };
+    gathered.add(&ran.lines)?;
+    Ok(Shared::of(head, end, ran))
+}
+
+/// Whether a program that was run has rows of all addresses of a table.
+fn is_covered(shared: &Option<Shared<'_>>, table: &Table<'_>) -> bool
+    ensures { IsTrue result → Covered shared.now table.now }
+{
+    match shared {
+        Some(shared) => shared.covers(table),
+        None => false,
+    }
+}
+
+/// What is kept of the tables at some offsets. One isn't run of whose addresses an earlier one has rows.
 fn gather<'a>(alloc: Global, section: &'a [u8], offsets: &[u32]) -> Result<Gathered<'a>, LineFault>
     requires { length section.now < 2 ^ 32 }
-    ensures tables { IfOk result (λ gathered. gathered ≡ with_tables nothing (tables_at section.now offsets.now)) }
+    ensures tables { IfOk result (λ gathered. IsGathered (tables_at section.now offsets.now) gathered) }
     ensures lawful { IfOk result (λ gathered. tables_fault section.now offsets.now ≡ None) }
     ensures fault { IfErr result (λ fault. (fault ≡ LineFault.NoMemory) ⊎ (tables_fault section.now offsets.now ≡ Some fault)) }
 {
     let mut gathered = Gathered::new(alloc);
+    let mut shared = None;
     let mut rest = offsets;
     while let Some((at, others)) = rest.split_first() {
-        let lines = match Lines::read(alloc, section, *at) {
-            Ok(lines) => lines,
+        let table = match table_at(alloc, section, *at) {
+            Ok(table) => table,
             Err(fault) => return Err(fault),
         };
-        gathered.add(&lines)?;
+        if !is_covered(&shared, &table) {
+            shared = match add_table(alloc, &mut gathered, table) {
+                Ok(shared) => shared,
+                Err(fault) => return Err(fault),
+            };
+        }
         rest = others;
     }
     Ok(gathered)
