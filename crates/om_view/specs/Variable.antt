@@ -34,11 +34,15 @@ number_at memory address kind = option_map (with_sign kind) (read_at memory addr
 abbrev pub number_in : Contents → Held → Option ℤ
 number_in memory held = option_and_then (λ address. number_at memory address held.kind) (address_of held.place)
 
+-- ... of the variable that is meant, if one is
+unfoldable pub held_number : Contents → Option Held → Option ℤ
+held_number memory held = option_and_then (number_in memory) held
+
 -- a number, NULL where there is none
 abbrev pub value_of : Option ℤ → Owned
 value_of (Some number) = Int number
 value_of None = Null
 
 -- what a variable has, if one is meant
-unfoldable pub held_value : Contents → Option Held → Owned
-held_value memory held = value_of (option_and_then (number_in memory) held)
+abbrev pub held_value : Contents → Option Held → Owned
+held_value memory held = value_of (held_number memory held)

@@ -69,18 +69,25 @@ fn number_at(memory: &Memory, address: u32, kind: Kind) -> Option<i128>
     Some(with_sign(kind, number))
 }
 
-/// What a variable has, if one is meant: NULL also where it has no address, or a byte of it isn't in a region.
-#[tactic(auto, unfolding(crate::specs::Variable::held_value))]
-pub fn held_value(memory: &Memory, held: Option<Held>) -> Value<'static>
-    ensures { owned result ≡ spec.held_value memory.now.contents held }
+/// The number that a variable holds, if one is meant; none also where it has no address, or a byte of it isn't in a
+/// region.
+#[inline(never)] // so that a row of other columns doesn't pay for it
+#[tactic(auto, unfolding(crate::specs::Variable::held_number))]
+pub fn held_number(memory: &Memory, held: Option<Held>) -> Option<i128>
+    ensures { result ≡ spec.held_number memory.now.contents held }
 {
-    let Some(held) = held else {
-        return Value::Null;
-    };
+    let held = held?;
     let Place::Fixed(address) = held.place else {
-        return Value::Null;
+        return None;
     };
-    match number_at(memory, address, held.kind) {
+    number_at(memory, address, held.kind)
+}
+
+/// The value of a number, NULL where there is none.
+pub fn number(number: Option<i128>) -> Value<'static>
+    ensures { owned result ≡ spec.value_of number }
+{
+    match number {
         Some(number) => Value::Int(number),
         None => Value::Null,
     }

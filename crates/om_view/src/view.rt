@@ -5,8 +5,9 @@ ghost use Rattle.om_eval.specs.Meaning.{owned};
 ghost use Rattle.om_names.specs.Known.{told_by};
 ghost use Rattle.om_view.specs.Row as spec;
 ghost use Rattle.om_view.specs.Row.{row_of};
+ghost use Rattle.om_view.specs.Variable.{held_value};
 
-use crate::variable::held_value;
+use crate::variable::{held_number, number};
 use om_base::Name;
 use om_eval::{ColumnId, RowView, Value};
 use om_line::LineRow;
@@ -54,6 +55,14 @@ fn line_of(row: Option<LineRow>) -> Option<u32>
     }
 }
 
+/// What the variable has that the name at a place of the catalog means.
+#[inline(always)] // with memory of its own, which other columns don't clear
+fn variable(machine: &Machine, debug: &Debug<'_>, place: u32) -> Value<'static>
+    ensures { owned result ≡ held_value machine.now.state.memory ((told_by debug.now).variables.held place) }
+{
+    number(held_number(machine.memory(), debug.variable(place)))
+}
+
 impl RowView for View<'_> {
     ghost answers = { λ view. row_of (told_by view.debug.now) view.machine.now.state view.step };
 
@@ -67,9 +76,7 @@ impl RowView for View<'_> {
             ColumnId::Func => text(self.debug.func_at(self.machine.pc())),
             ColumnId::File => text(self.debug.file_at(self.machine.pc())),
             ColumnId::Line => value(line_of(self.debug.line_at(self.machine.pc()))),
-            ColumnId::Var(place) => {
-                held_value(self.machine.memory(), self.debug.variable(place))
-            }
+            ColumnId::Var(place) => variable(self.machine, self.debug, place),
         }
     }
 
