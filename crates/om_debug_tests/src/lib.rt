@@ -1,4 +1,4 @@
-//! Tests of executables and their debugging information: the crates `om_claims`, `om_elf`, `om_die`, `om_line`, `om_loc`, `om_names`, `om_image`, `om_info` and `om_view`.
+//! Tests of executables and their debugging information: the crates `om_claims`, `om_elf`, `om_die`, `om_line`, `om_cfi`, `om_loc`, `om_names`, `om_image`, `om_info` and `om_view`.
 #![tactic(auto)]
 
 #[cfg(test)]
@@ -9,6 +9,8 @@ mod die;
 mod die_forms;
 #[cfg(test)]
 mod elf;
+#[cfg(test)]
+mod frames;
 #[cfg(test)]
 mod image;
 #[cfg(test)]

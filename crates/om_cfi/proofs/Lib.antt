@@ -1,0 +1,10 @@
+pub mod FieldLemmas
+pub mod BehindLemmas
+pub mod RuleLemmas
+pub mod CutLemmas
+pub mod RowLemmas
+pub mod SweepLemmas
+pub mod DescribingLemmas
+pub mod MeantLemmas
+pub mod RuleRowLemmas
+pub mod LawLemmas

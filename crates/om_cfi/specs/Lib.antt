@@ -1,0 +1,10 @@
+pub mod Fields
+pub mod Instructions
+pub mod Rules
+pub mod Common
+pub mod Entries
+pub mod Frames
+pub mod Running
+pub mod Rows
+pub mod Kept
+pub mod Laws
