@@ -4,6 +4,8 @@ use Rattle.om_die.specs.declared.fault.DieFault.{DieFault}
 use Rattle.om_die.specs.declared.fault.DieFault.TheVariants as die
 use Rattle.om_elf.specs.declared.fault.ElfFault.{ElfFault}
 use Rattle.om_elf.specs.declared.fault.ElfFault.TheVariants as elf
+use Rattle.om_cfi.specs.declared.fault.CfiFault.{CfiFault}
+use Rattle.om_cfi.specs.declared.fault.CfiFault.TheVariants as cfi
 use Rattle.om_line.specs.declared.fault.LineFault.{LineFault}
 use Rattle.om_line.specs.declared.fault.LineFault.TheVariants as line
 use Rattle.om_log.specs.declared.fault.LogFault.{LogFault}
@@ -83,6 +85,12 @@ line_words (line.Header at) = with_numbers (codes "header at") (at ∷ [])
 line_words (line.Opcode at) = with_numbers (codes "opcode at") (at ∷ [])
 line_words line.NoMemory = []
 
+-- the words for a fault of an entry of frames
+abbrev pub frame_words : CfiFault → List ℕ
+frame_words (cfi.Short at) = with_numbers (codes "short at") (at ∷ [])
+frame_words (cfi.Cie at) = with_numbers (codes "cie at") (at ∷ [])
+frame_words cfi.NoMemory = []
+
 -- the words for a type of .debug_info that leads too far
 abbrev pub type_loop_words : ℕ → List ℕ
 type_loop_words at = with_numbers (codes "type loop at") (at ∷ [])
@@ -92,6 +100,7 @@ abbrev pub debug_words : NamesFault → List ℕ
 debug_words (names.Info fault) = codes ".debug_info " ++ die_words fault
 debug_words (names.Ranges fault) = codes ".debug_ranges " ++ die_words fault
 debug_words (names.Lines fault) = codes ".debug_line " ++ line_words fault
+debug_words (names.Frame fault) = codes ".debug_frame " ++ frame_words fault
 debug_words (names.TypeLoop at) = codes ".debug_info " ++ type_loop_words at
 debug_words names.NoMemory = []
 

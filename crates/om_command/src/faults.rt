@@ -1,11 +1,12 @@
 //! What the faults of files and the broken rules of a run tell.
 
 ghost use Rattle.std.specs.Prelude.{◌≡◌};
-ghost use Rattle.om_command.specs.Lines.{die_words, elf_words, fault_words, line_words, reason_words, type_loop_words, word_of};
+ghost use Rattle.om_command.specs.Lines.{die_words, frame_words, elf_words, fault_words, line_words, reason_words, type_loop_words, word_of};
 ghost use Rattle.om_command.specs.Told.{told_text};
 
 use crate::refusal::Part;
 use crate::told::Told;
+use om_cfi::CfiFault;
 use om_die::DieFault;
 use om_elf::ElfFault;
 use om_line::LineFault;
@@ -65,6 +66,17 @@ pub fn line_told(fault: LineFault) -> Told
         LineFault::Header { at } => Told::number(b"header at", u64::from(at)),
         LineFault::Opcode { at } => Told::number(b"opcode at", u64::from(at)),
         LineFault::NoMemory => Told::words(b""),
+    }
+}
+
+/// What a fault of an entry of frames tells.
+pub fn frame_told(fault: CfiFault) -> Told
+    ensures { told_text result ≡ frame_words fault }
+{
+    match fault {
+        CfiFault::Short { at } => Told::number(b"short at", u64::from(at)),
+        CfiFault::Cie { at } => Told::number(b"cie at", u64::from(at)),
+        CfiFault::NoMemory => Told::words(b""),
     }
 }
 

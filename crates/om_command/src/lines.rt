@@ -5,7 +5,7 @@ ghost use Rattle.om_command.specs.Lines.{debug_words, number_words, reason_words
 ghost use Rattle.om_io.specs.Writing.{Puts};
 
 use crate::faults::{
-    die_told, elf_told, line_told, log_told, part_told, reason_told, type_loop_told,
+    die_told, elf_told, frame_told, line_told, log_told, part_told, reason_told, type_loop_told,
 };
 use crate::refusal::Refusal;
 use crate::told::{Told, put_place, put_told};
@@ -27,6 +27,9 @@ fn put_debug<P: Sink>(sink: &mut P, fault: NamesFault) -> Result<(), SinkFail>
         ),
         NamesFault::Lines(fault) => {
             put_told(sink, b"omni: debug: .debug_line ", &line_told(fault))
+        }
+        NamesFault::Frame(fault) => {
+            put_told(sink, b"omni: debug: .debug_frame ", &frame_told(fault))
         }
         NamesFault::TypeLoop { at } => put_told(
             sink,

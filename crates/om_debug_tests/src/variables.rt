@@ -2,7 +2,7 @@
 //! lead back to themselves.
 
 use crate::made::{elf_of, put_unit};
-use om_eval::VarInfo;
+use om_eval::{VarInfo, VariableName};
 use om_names::{Debug, NamesFault, read_debug};
 use std::alloc::{AllocError, Global};
 use std::test::Fail;
@@ -49,7 +49,7 @@ fn put_known(
     if known.ambiguous {
         write!(text, " ambiguous")?;
     }
-    match debug.variable(place) {
+    match debug.variable(place, 0) {
         Some(held) => {
             let kind = held.kind;
             write!(
@@ -62,6 +62,15 @@ fn put_known(
     }
 }
 
+/// Adds a name and a space.
+fn put_name(alloc: Global, text: &mut String, name: &VariableName<'_>) -> Result<(), AllocError> {
+    let (function, point, own) = name.pieces();
+    let function = String::from_utf8_lossy(alloc, function)?;
+    let point = String::from_utf8_lossy(alloc, point)?;
+    let own = String::from_utf8_lossy(alloc, own)?;
+    write!(text, "{function}{point}{own} ")
+}
+
 /// What is told of the variables of some units, name by name.
 fn told(alloc: Global, first: &[u8], second: &[u8]) -> Result<String, Fail> {
     let info = units(alloc, first, second)?;
@@ -69,8 +78,7 @@ fn told(alloc: Global, first: &[u8], second: &[u8]) -> Result<String, Fail> {
     let mut text = String::new(alloc);
     let mut place: u32 = 0;
     for known in debug.catalog().as_slice() {
-        let name = String::from_utf8_lossy(alloc, known.name.bytes())?;
-        write!(text, "{name} ")?;
+        put_name(alloc, &mut text, &known.name)?;
         put_known(&mut text, &debug, known, place)?;
         write!(text, "; ")?;
         place = place.wrapping_add(1);

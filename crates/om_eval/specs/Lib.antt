@@ -1,3 +1,4 @@
 pub mod Looks
 pub mod Meaning
+pub mod Qualified
 pub mod Row

@@ -1,12 +1,13 @@
 //! The variables of a program that a query may name.
 
-use om_base::{Interval, Items, Name};
+use crate::VariableName;
+use om_base::{Interval, Items};
 
 /// What is known of all the variables of one name.
 #[derive(Debug, Drop)]
 pub struct VarInfo<'a> {
-    /// The name, a piece of the executable.
-    pub name: Name<'a>,
+    /// The name by which a query names them.
+    pub name: VariableName<'a>,
     /// The numbers that it may hold, where its type is scalar.
     pub scalar: Option<Interval>,
     /// Whether several variables outside all functions have this name and differ in address, size or

@@ -15,6 +15,7 @@ mod look_meter;
 mod row_view;
 mod truth;
 mod value;
+mod variable_name;
 
 pub use catalog::{Catalog, VarInfo};
 pub use cells::Cells;
@@ -27,3 +28,4 @@ pub use look_meter::LookMeter;
 pub use row_view::RowView;
 pub use truth::Truth;
 pub use value::{Owned, Value};
+pub use variable_name::VariableName;

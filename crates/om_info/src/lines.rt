@@ -2,11 +2,12 @@
 
 ghost use Rattle.std.specs.Prelude.{◌≡◌, ◌++◌, OnOk, length, pos};
 ghost use Rattle.om_info.specs.Text as spec;
+ghost use Rattle.om_table.specs.Escape.{escaped};
 
 use crate::filled::count_filled;
 use om_base::{Interval, NoMemory, Text, put_decimal};
 use om_elf::Elf;
-use om_eval::VarInfo;
+use om_eval::{VarInfo, VariableName};
 use om_names::Counts;
 use om_table::escape_into;
 
@@ -66,6 +67,17 @@ fn put_known(text: &mut Text, variable: &VarInfo<'_>) -> Result<(), NoMemory>
     }
 }
 
+/// Appends a name as it is printed, piece by piece.
+#[tactic(auto, using(crate::proofs::NameLemmas::escaped_pieces))]
+fn put_name(text: &mut Text, name: &VariableName<'_>) -> Result<(), NoMemory>
+    ensures { OnOk result (text.new ≡ text.old ++ escaped name.now) }
+{
+    let (function, point, own) = name.pieces();
+    escape_into(text, function)?;
+    escape_into(text, point)?;
+    escape_into(text, own)
+}
+
 /// Appends the line of the variables of a name. After a refusal a part of it may stand at the end of
 /// `text`.
 #[tactic(auto, unfolding(crate::specs::Text::variable_line))]
@@ -73,7 +85,7 @@ pub fn put_variable(text: &mut Text, variable: &VarInfo<'_>) -> Result<(), NoMem
     ensures { OnOk result (text.new ≡ text.old ++ spec.variable_line variable.now) }
 {
     text.add(b"variable ")?;
-    escape_into(text, variable.name.bytes())?;
+    put_name(text, &variable.name)?;
     text.add(b" ")?;
     put_known(text, variable)?;
     text.add(b"\n")

@@ -4,6 +4,9 @@ use Rattle.std.specs.Prelude.{All, IfErr, IfOk, find}
 use Rattle.std.specs.Option.{option_and_then, option_or}
 use Rattle.std.proofs.lemmas.List.Elements.{All-head, All-tail}
 use Rattle.std.proofs.lemmas.List.Folds.{find-append}
+use Rattle.om_cfi.specs.Frames.{frames_fault}
+use Rattle.om_cfi.specs.declared.fault.CfiFault.{CfiFault}
+use Rattle.om_cfi.specs.declared.fault.CfiFault.TheVariants as f
 use Rattle.om_die.specs.Refusals.{IsRefusal}
 use Rattle.om_die.specs.Units.{AreUnits, dies_of_units}
 use Rattle.om_die.specs.declared.fault.DieFault.{DieFault}
@@ -22,7 +25,7 @@ use Rattle.om_names.specs.Known.{Known, Knows}
 use Rattle.om_names.specs.Ranges.{first_range_fault}
 use Rattle.om_names.specs.LineTables.{line_fault, line_section, line_tables, line_offsets}
 use Rattle.om_names.specs.Stage.{Stage, followed_by, gives_or_refuses, giving}
-use Rattle.om_names.specs.Stages.{IsLawful, IsRefused, all_stages, lines_stage, ranges_stage, types_stage, units_stage}
+use Rattle.om_names.specs.Stages.{IsLawful, IsRefused, all_stages, frame_section, frames_stage, lines_stage, ranges_stage, types_stage, units_stage}
 use Rattle.om_names.specs.Types.{type_fault}
 use Rattle.om_names.specs.declared.fault.NamesFault.{NamesFault}
 use Rattle.om_names.specs.declared.fault.NamesFault.TheVariants as n
@@ -60,12 +63,18 @@ module _ (elf : Elf) where
   one_of_lines : (units : Units) → HasOneOutcome (lines_stage elf units)
   one_of_lines units = one_unless (line_fault elf units) (line_tables elf units) n.Lines
 
+  one_of_frames : HasOneOutcome (frames_stage elf)
+  one_of_frames = one_unless (frames_fault (frame_section elf)) (frame_section elf) n.Frame
+
   one_of_types : (units : Units) → HasOneOutcome (types_stage units)
   one_of_types units = one_unless (type_fault units) tt n.TypeLoop
 
-  -- the stages behind the units, behind the range lists, and behind the line tables
+  -- the stages behind the units, behind the range lists, behind the line tables, and behind the frames
+  abbrev behind_frames : (units : Units) → List ℕ → List Lines → List ℕ → Stage Information
+  behind_frames units ranges lines frames = followed_by (types_stage units) (λ typed. giving (info_of units ranges lines frames))
+
   abbrev behind_lines : (units : Units) → List ℕ → List Lines → Stage Information
-  behind_lines units ranges lines = followed_by (types_stage units) (λ typed. giving (info_of units ranges lines))
+  behind_lines units ranges lines = followed_by (frames_stage elf) (behind_frames units ranges lines)
 
   abbrev behind_ranges : (units : Units) → List ℕ → Stage Information
   behind_ranges units ranges = followed_by (lines_stage elf units) (behind_lines units ranges)
@@ -79,7 +88,8 @@ module _ (elf : Elf) where
       one_followed (units_stage elf) behind_units one_of_units
       (λ units. one_followed (ranges_stage elf units) (behind_ranges units) (one_of_ranges units)
       (λ ranges. one_followed (lines_stage elf units) (behind_lines units ranges) (one_of_lines units)
-      (λ lines. one_followed (types_stage units) (λ typed. giving (info_of units ranges lines)) (one_of_types units) (λ typed. one_giving (info_of units ranges lines)))))
+      (λ lines. one_followed (frames_stage elf) (behind_frames units ranges lines) one_of_frames
+      (λ frames. one_followed (types_stage units) (λ typed. giving (info_of units ranges lines frames)) (one_of_types units) (λ typed. one_giving (info_of units ranges lines frames))))))
 
   pub one_information : (a b : Information) → IsLawful elf a → IsLawful elf b → a ≡ b
   one_information a b is are = let same : Ok a ≡ Ok b = one_reading (Ok a) (Ok b) is are in cc
@@ -101,6 +111,9 @@ module _ (elf : Elf) where
   some_of_lines : (units : Units) → HasOutcome (lines_stage elf units)
   some_of_lines units = some_unless (line_fault elf units) (line_tables elf units) n.Lines
 
+  some_of_frames : HasOutcome (frames_stage elf)
+  some_of_frames = some_unless (frames_fault (frame_section elf)) (frame_section elf) n.Frame
+
   some_of_types : (units : Units) → HasOutcome (types_stage units)
   some_of_types units = some_unless (type_fault units) tt n.TypeLoop
 
@@ -110,7 +123,8 @@ module _ (elf : Elf) where
       some_followed (units_stage elf) behind_units some_of_units
       (λ units. some_followed (ranges_stage elf units) (behind_ranges units) (some_of_ranges units)
       (λ ranges. some_followed (lines_stage elf units) (behind_lines units ranges) (some_of_lines units)
-      (λ lines. some_followed (types_stage units) (λ typed. giving (info_of units ranges lines)) (some_of_types units) (λ typed. some_giving (info_of units ranges lines)))))
+      (λ lines. some_followed (frames_stage elf) (behind_frames units ranges lines) some_of_frames
+      (λ frames. some_followed (types_stage units) (λ typed. giving (info_of units ranges lines frames)) (some_of_types units) (λ typed. some_giving (info_of units ranges lines frames))))))
 
   either : (x : Result Information NamesFault) → all_stages elf x → ((info : Information) × IsLawful elf info) ⊎ ((fault : NamesFault) × IsRefused elf fault)
   either (Ok info) is = inl (info, is)
@@ -136,9 +150,10 @@ module _ (elf : Elf) where
 
 -- ---- stage by stage
 
-pub lawful : (elf : Elf) (units : Units) (ranges : List ℕ) (lines : List Lines) → units_stage elf (Ok units) → ranges_stage elf units (Ok ranges) → lines_stage elf units (Ok lines) → type_fault units ≡ None → IsLawful elf (info_of units ranges lines)
+pub lawful : (elf : Elf) (units : Units) (ranges : List ℕ) (lines : List Lines) (frames : List ℕ) → units_stage elf (Ok units) → ranges_stage elf units (Ok ranges) → lines_stage elf units (Ok lines) → frames_stage elf (Ok frames)
+    → type_fault units ≡ None → IsLawful elf (info_of units ranges lines frames)
 unfolding all_stages followed_by gives_or_refuses
-lawful elf units ranges lines are listed named typed = (units, are, (ranges, listed, (lines, named, (tt, (refl, typed), refl))))
+lawful elf units ranges lines frames are listed named ruled typed = (units, are, (ranges, listed, (lines, named, (frames, ruled, (tt, (refl, typed), refl)))))
 
 refused_by_units : (elf : Elf) (fault : NamesFault) → units_stage elf (Err fault) → IsRefused elf fault
 unfolding all_stages followed_by
@@ -152,16 +167,26 @@ refused_by_lines : (elf : Elf) (units : Units) (ranges : List ℕ) (fault : Name
 unfolding all_stages followed_by
 refused_by_lines elf units ranges fault are listed refused = inr (units, are, inr (ranges, listed, inl refused))
 
-refused_by_types : (elf : Elf) (units : Units) (ranges : List ℕ) (lines : List Lines) (at : ℕ) → units_stage elf (Ok units) → ranges_stage elf units (Ok ranges) → lines_stage elf units (Ok lines) → type_fault units ≡ Some at
-    → IsRefused elf (n.TypeLoop at)
+refused_by_frames : (elf : Elf) (units : Units) (ranges : List ℕ) (lines : List Lines) (fault : NamesFault) → units_stage elf (Ok units) → ranges_stage elf units (Ok ranges) → lines_stage elf units (Ok lines)
+    → frames_stage elf (Err fault) → IsRefused elf fault
+unfolding all_stages followed_by
+refused_by_frames elf units ranges lines fault are listed named refused = inr (units, are, inr (ranges, listed, inr (lines, named, inl refused)))
+
+refused_by_types : (elf : Elf) (units : Units) (ranges : List ℕ) (lines : List Lines) (frames : List ℕ) (at : ℕ) → units_stage elf (Ok units) → ranges_stage elf units (Ok ranges) → lines_stage elf units (Ok lines)
+    → frames_stage elf (Ok frames) → type_fault units ≡ Some at → IsRefused elf (n.TypeLoop at)
 unfolding all_stages followed_by gives_or_refuses
-refused_by_types elf units ranges lines at are listed named first = inr (units, are, inr (ranges, listed, inr (lines, named, inl (at, first, refl))))
+refused_by_types elf units ranges lines frames at are listed named ruled first = inr (units, are, inr (ranges, listed, inr (lines, named, inr (frames, ruled, inl (at, first, refl)))))
 
 -- ... where memory may be wanting
-pub types_refused : (elf : Elf) (units : Units) (ranges : List ℕ) (lines : List Lines) (fault : NamesFault) → units_stage elf (Ok units) → ranges_stage elf units (Ok ranges) → lines_stage elf units (Ok lines)
-    → (fault ≡ n.NoMemory) ⊎ ((at : ℕ) × (fault ≡ n.TypeLoop at) × (type_fault units ≡ Some at)) → (fault ≡ n.NoMemory) ⊎ IsRefused elf fault
-types_refused elf units ranges lines fault are listed named (inl none) = inl none
-types_refused elf units ranges lines fault are listed named (inr loop) = inr (subst (IsRefused elf) (sym loop.1) (refused_by_types elf units ranges lines loop.0 are listed named loop.2))
+pub types_refused : (elf : Elf) (units : Units) (ranges : List ℕ) (lines : List Lines) (frames : List ℕ) (fault : NamesFault) → units_stage elf (Ok units) → ranges_stage elf units (Ok ranges) → lines_stage elf units (Ok lines)
+    → frames_stage elf (Ok frames) → (fault ≡ n.NoMemory) ⊎ ((at : ℕ) × (fault ≡ n.TypeLoop at) × (type_fault units ≡ Some at)) → (fault ≡ n.NoMemory) ⊎ IsRefused elf fault
+types_refused elf units ranges lines frames fault are listed named ruled (inl none) = inl none
+types_refused elf units ranges lines frames fault are listed named ruled (inr loop) = inr (subst (IsRefused elf) (sym loop.1) (refused_by_types elf units ranges lines frames loop.0 are listed named ruled loop.2))
+
+pub frames_refused : (elf : Elf) (units : Units) (ranges : List ℕ) (lines : List Lines) (fault : NamesFault) → units_stage elf (Ok units) → ranges_stage elf units (Ok ranges) → lines_stage elf units (Ok lines)
+    → (fault ≡ n.NoMemory) ⊎ frames_stage elf (Err fault) → (fault ≡ n.NoMemory) ⊎ IsRefused elf fault
+frames_refused elf units ranges lines fault are listed named (inl none) = inl none
+frames_refused elf units ranges lines fault are listed named (inr refused) = inr (refused_by_frames elf units ranges lines fault are listed named refused)
 
 pub units_refused : (elf : Elf) (fault : NamesFault) → (fault ≡ n.NoMemory) ⊎ units_stage elf (Err fault) → (fault ≡ n.NoMemory) ⊎ IsRefused elf fault
 units_refused elf fault (inl none) = inl none
@@ -236,4 +261,24 @@ refused_lines elf units bytes offsets fault told are all (inl none) memory lines
 refused_lines elf units bytes offsets fault told are all (inr first) memory lines = elim (line_memory_or_not fault) [
   | inl none ↦ inl (memory none)
   | inr some ↦ inr (fault, ap (λ bs. tables_fault bs (line_offsets units.list)) (sym are) ∙ ap (tables_fault bytes) (sym all) ∙ first, lines some)
+]
+
+-- ---- the frames
+
+pub given_frames : (elf : Elf) (bytes : List ℕ) → bytes ≡ frame_section elf → frames_fault bytes ≡ None → frames_stage elf (Ok (frame_section elf))
+unfolding gives_or_refuses
+given_frames elf bytes are sound = (refl, ap frames_fault (sym are) ∙ sound)
+
+frame_memory_or_not : (fault : CfiFault) → (fault ≡ f.NoMemory) ⊎ (fault ≡ f.NoMemory → ⊥)
+frame_memory_or_not f.NoMemory = inl refl
+frame_memory_or_not (f.Short at) = inr (λ e. cc)
+frame_memory_or_not (f.Cie at) = inr (λ e. cc)
+
+pub refused_frames : (elf : Elf) (bytes : List ℕ) (fault : CfiFault) (told : NamesFault) → bytes ≡ frame_section elf → (fault ≡ f.NoMemory) ⊎ (frames_fault bytes ≡ Some fault) → (fault ≡ f.NoMemory → told ≡ n.NoMemory)
+    → ((fault ≡ f.NoMemory → ⊥) → told ≡ n.Frame fault) → (told ≡ n.NoMemory) ⊎ frames_stage elf (Err told)
+unfolding gives_or_refuses
+refused_frames elf bytes fault told are (inl none) memory frames = inl (memory none)
+refused_frames elf bytes fault told are (inr first) memory frames = elim (frame_memory_or_not fault) [
+  | inl none ↦ inl (memory none)
+  | inr some ↦ inr (fault, ap frames_fault (sym are) ∙ first, frames some)
 ]

@@ -1,5 +1,5 @@
 -- What ranges, names and counts tell of all entries.
-use Rattle.std.proofs.Common.{◌≡◌, ℕ, ◌+◌, ◌^◌, ◌<◌, ◌≤◌, Bool, true, false, cond, ◌&&◌, ◌||◌, nat_eq, leb, ltb, List, [], ◌∷◌, ◌++◌, length, map, Option, Some, None, refl, sym, ap, subst, ◌∙◌, inl, inr, arith, append_assoc, append-nil, length-append}
+use Rattle.std.proofs.Common.{◌≡◌, ℕ, ℤ, ◌+◌, ◌^◌, ◌<◌, ◌≤◌, Bool, true, false, cond, ◌&&◌, ◌||◌, nat_eq, leb, ltb, List, [], ◌∷◌, ◌++◌, length, map, Option, Some, None, refl, sym, ap, subst, ◌∙◌, inl, inr, arith, append_assoc, append-nil, length-append}
 use Rattle.std.specs.Prelude.{All, sum_by, filter, find}
 use Rattle.std.specs.List.{flat_map, slice_get}
 use Rattle.std.specs.Option.{option_and_then, option_flatten, option_map}
@@ -25,9 +25,10 @@ use Rattle.om_line.specs.Kept.{KeptLines, lines_told_by}
 use Rattle.om_line.specs.Tables.{LineFacts, line_facts}
 use Rattle.om_line.specs.declared.lines.Lines.{Lines}
 use Rattle.om_names.specs.Facts.{Facts}
-use Rattle.om_names.specs.KeptVariables.{told_in}
-use Rattle.om_names.specs.Variables.{VariableFacts, variable_facts}
-use Rattle.om_names.specs.declared.variables.Variables.{Variables}
+use Rattle.om_cfi.specs.Frames.{rules_in}
+use Rattle.om_cfi.specs.Kept.{KeptRules, rules_told_by}
+use Rattle.om_names.specs.KeptVariables.{KeptVariables, told_in}
+use Rattle.om_names.specs.Variables.{VariableFacts, variable_facts, variables_in}
 use Rattle.om_names.specs.Functions.{counts_of, func_at, function_at, functions_in, holds, name_of, own_name}
 use Rattle.om_names.specs.Information.{Entry, Information, entries_of, info_of, is_subprogram}
 use Rattle.om_names.specs.Known.{Knows, name_at, told_by}
@@ -136,13 +137,13 @@ place_behind before (it ∷ named) pc none =
 
 -- the name at the place of the claim that is meant is that of the function there
 pub names_tell : (names : Names) (units : Units) (section : List ℕ) (pc : ℕ) → AreNames (dies_of_units units.list) names
-    → name_at (names_of (flat_map (named_in_unit names section) units.list)) (meant_at (claims_of (flat_map (named_in_unit names section) units.list)) pc) ≡ func_at (info_of units section []) pc
+    → name_at (names_of (flat_map (named_in_unit names section) units.list)) (meant_at (claims_of (flat_map (named_in_unit names section) units.list)) pc) ≡ func_at (info_of units section [] []) pc
 unfolding func_at
 names_tell names units section pc are =
     ap (λ named. name_at (names_of named) (meant_at (claims_of named) pc)) (all_named names section units.list)
     ∙ place_behind [] (flat_map (spans_at names section) (entries_of units)) pc (λ k d within. absurd (omega (arith, within)))
-    ∙ ap option_flatten (first_of_entries names (info_of units section []) (entries_of units) pc)
-    ∙ name_of_found names (info_of units section []) (function_at (info_of units section []) pc) are
+    ∙ ap option_flatten (first_of_entries names (info_of units section [] []) (entries_of units) pc)
+    ∙ name_of_found names (info_of units section [] []) (function_at (info_of units section [] []) pc) are
 
 -- ---- counts
 
@@ -173,30 +174,38 @@ all_counts section (unit ∷ units) =
     ∙ ap (λ n. sum_by (λ entry. count_by section (base_of entry.unit) entry.die) (map (entry_in unit) unit.dies) + n) (all_counts section units)
     ∙ sym (sum_by-append (λ entry. count_by section (base_of entry.unit) entry.die) (map (entry_in unit) unit.dies) (flat_map (λ u. map (entry_in u) u.dies) units))
 
-pub counts_tell : (units : Units) (section : List ℕ) → sum_by (count_in_unit section) units.list ≡ length (functions_in (info_of units section []))
-counts_tell units section = all_counts section units.list ∙ functions_counted (info_of units section []) (entries_of units)
+pub counts_tell : (units : Units) (section : List ℕ) → sum_by (count_in_unit section) units.list ≡ length (functions_in (info_of units section [] []))
+counts_tell units section = all_counts section units.list ∙ functions_counted (info_of units section [] []) (entries_of units)
 
 -- ---- what is kept
 
-facts_by : (ℕ → Option (List ℕ)) → LineFacts → VariableFacts → Counts → Facts
-facts_by func_at lines variables counts = record { func_at = func_at; lines = lines; variables = variables; counts = counts }
+facts_by : (ℕ → Option (List ℕ)) → LineFacts → VariableFacts → (ℕ → Option (ℕ × ℤ)) → Counts → Facts
+facts_by functions lines variables rules counts = record { func_at = functions; lines = lines; variables = variables; cfa = rules; counts = counts }
 
-same_facts : (f g : ℕ → Option (List ℕ)) (l m : LineFacts) (v w : VariableFacts) (a b : Counts) → f ≡ g → l ≡ m → v ≡ w → a ≡ b → facts_by f l v a ≡ facts_by g m w b
-same_facts f g l m v w a b functions lines variables counts = ap (λ h. facts_by h l v a) functions ∙ ap (λ ls. facts_by g ls v a) lines ∙ ap (λ vs. facts_by g m vs a) variables ∙ ap (facts_by g m w) counts
+same_facts : (f g : ℕ → Option (List ℕ)) (l m : LineFacts) (v w : VariableFacts) (r s : ℕ → Option (ℕ × ℤ)) (a b : Counts) → f ≡ g → l ≡ m → v ≡ w → r ≡ s → a ≡ b → facts_by f l v r a ≡ facts_by g m w s b
+same_facts f g l m v w r s a b functions lines variables rules counts =
+    ap (λ h. facts_by h l v r a) functions ∙ ap (λ ls. facts_by g ls v r a) lines ∙ ap (λ vs. facts_by g m vs r a) variables ∙ ap (λ rs. facts_by g m w rs a) rules ∙ ap (facts_by g m w s) counts
 
--- pieces, names, line tables and counts that tell what the information says
-pub knows : (units : Units) (ranges : List ℕ) (tables : List Lines) (lines : KeptLines) (variables : Variables) (names : Names) (claims : List Claim) (pieces : List kept.Piece) (kept_names : List (Option (List ℕ))) (many functions : ℕ) → AreNames (dies_of_units units.list) names
-    → claims ≡ claims_of (flat_map (named_in_unit names ranges) units.list) → IsIndexOf claims pieces → kept_names ≡ names_of (flat_map (named_in_unit names ranges) units.list)
-    → many ≡ length units.list → functions ≡ sum_by (count_in_unit ranges) units.list → lines_told_by lines ≡ line_facts tables → told_in variables ≡ variable_facts units
-    → Knows (info_of units ranges tables) (record { pieces = pieces; names = kept_names; lines = lines; variables = variables; counts = record { units = many; skipped = units.skipped; functions = functions } })
+-- what tells what the later stages give
+pub record Tell (units : Units) (ranges : List ℕ) (tables : List Lines) (frames : List ℕ) (lines : KeptLines) (rules : KeptRules) (variables : KeptVariables) : Type 0 where
+  pub lines_tell : lines_told_by lines ≡ line_facts tables
+  pub rules_tell : rules_told_by rules ≡ rules_in frames
+  pub variables_tell : told_in variables ≡ variable_facts (variables_in ranges units)
+
+-- pieces, names, line tables, rules, variables and counts that tell what the information says
+pub knows : (units : Units) (ranges : List ℕ) (tables : List Lines) (frames : List ℕ) (lines : KeptLines) (rules : KeptRules) (variables : KeptVariables) (names : Names) (claims : List Claim) (pieces : List kept.Piece)
+    (kept_names : List (Option (List ℕ))) (many functions : ℕ) → AreNames (dies_of_units units.list) names → claims ≡ claims_of (flat_map (named_in_unit names ranges) units.list) → IsIndexOf claims pieces
+    → kept_names ≡ names_of (flat_map (named_in_unit names ranges) units.list) → many ≡ length units.list → functions ≡ sum_by (count_in_unit ranges) units.list → Tell units ranges tables frames lines rules variables
+    → Knows (info_of units ranges tables frames) (record { pieces = pieces; names = kept_names; lines = lines; frames = rules; variables = variables; counts = record { units = many; skipped = units.skipped; functions = functions } })
 unfolding counts_of func_at told_by facts_by
-knows units ranges tables lines variables names claims pieces kept_names many functions are claims_are index names_are many_is functions_are lines_are variables_are =
-    let count : functions ≡ length (functions_in (info_of units ranges [])) = functions_are ∙ counts_tell units ranges in
-    let counts : record { units = many; skipped = units.skipped; functions = functions } ≡ counts_of (info_of units ranges []) = rw (many_is, count) refl in
-    let tells : (pc : ℕ) → name_at kept_names (owner_in pieces pc) ≡ func_at (info_of units ranges []) pc = λ pc. ap (name_at kept_names) (index pc)
+knows units ranges tables frames lines rules variables names claims pieces kept_names many functions are claims_are index names_are many_is functions_are tell =
+    let count : functions ≡ length (functions_in (info_of units ranges [] [])) = functions_are ∙ counts_tell units ranges in
+    let counts : record { units = many; skipped = units.skipped; functions = functions } ≡ counts_of (info_of units ranges [] []) = rw (many_is, count) refl in
+    let tells : (pc : ℕ) → name_at kept_names (owner_in pieces pc) ≡ func_at (info_of units ranges [] []) pc = λ pc. ap (name_at kept_names) (index pc)
     ∙ ap (λ cs. name_at kept_names (meant_at cs pc)) claims_are
     ∙ ap (λ ns. name_at ns (meant_at (claims_of (flat_map (named_in_unit names ranges) units.list)) pc)) names_are ∙ names_tell names units ranges pc are in
-    same_facts (λ pc. name_at kept_names (owner_in pieces pc)) (func_at (info_of units ranges [])) (lines_told_by lines) (line_facts tables) (told_in variables) (variable_facts units) (record { units = many; skipped = units.skipped; functions = functions }) (counts_of (info_of units ranges [])) (fun_ext tells) lines_are variables_are counts
+    same_facts (λ pc. name_at kept_names (owner_in pieces pc)) (func_at (info_of units ranges [] [])) (lines_told_by lines) (line_facts tables) (told_in variables) (variable_facts (variables_in ranges units))
+    (rules_told_by rules) (rules_in frames) (record { units = many; skipped = units.skipped; functions = functions }) (counts_of (info_of units ranges [] [])) (fun_ext tells) tell.lines_tell tell.variables_tell tell.rules_tell counts
 
 -- ---- how much there can be
 

@@ -10,3 +10,7 @@ pub mod ByNameLemmas
 pub mod CatalogLemmas
 pub mod VariableLemmas
 pub mod VariableLaws
+pub mod PieceLemmas
+pub mod DeepestLemmas
+pub mod ScopeLemmas
+pub mod StretchLemmas

@@ -8,7 +8,9 @@ use Rattle.om_die.specs.declared.die.Die.{Die}
 use Rattle.om_names.specs.Constants.{DW_AT_byte_size, DW_AT_encoding, DW_TAG_base_type, DW_TAG_enumeration_type, DW_TAG_pointer_type, DW_TAG_variable}
 use Rattle.om_names.specs.Functions.{name_among}
 use Rattle.om_names.specs.Types.{base_kind, constant, enumeration_kind, kind_in, of_size, scalar_of, sign_of, sizes, typing_of}
-use Rattle.om_names.specs.Variables.{Placed, agree, differ, fixed_address, fixed_of, interval_of, is_ambiguous, is_declaration, is_function, is_outside, numbers_of}
+use Rattle.om_names.specs.Above.{Placed}
+use Rattle.om_names.specs.FixedVariables.{fixed_address, fixed_of, is_declaration, is_function, is_outside}
+use Rattle.om_names.specs.Variables.{agree, differ, interval_of, is_ambiguous, numbers_of}
 use Rattle.om_names.specs.declared.fixed.Fixed.{Fixed}
 use Rattle.om_names.specs.declared.kind.Kind.{Kind}
 use Rattle.om_names.proofs.CatalogLemmas.{by_first}

@@ -1,14 +1,15 @@
--- The stack of a walk holds the entries above the next one, and fixed variables are found entry by entry.
+-- The stack of a walk holds the entries above the next one, and variables are found entry by entry.
 use Rattle.std.proofs.Common.{◌≡◌, ℕ, suc, ◌+◌, ◌-◌, ◌<◌, ◌≤◌, cond, ltb, List, [], ◌∷◌, ◌++◌, reverse, length, get_or, take, drop, Option, Some, None, refl, sym, ap, subst, ◌∙◌, inl, inr, arith, append_assoc, append-nil, drop-cons}
 use Rattle.std.proofs.lemmas.Bool.{cases_lt, le-ltb, lt-ltb}
 use Rattle.std.proofs.lemmas.List.{drop_all, reverse-append, take_more, take_all}
 use Rattle.std.proofs.lemmas.Option.{get_or_from_slice_get, slice_get-get_or}
 use Rattle.std.specs.Prelude.{filter_map, option_to_list, slice_get}
-use Rattle.std.specs.List.{list_any}
 use Rattle.om_die.specs.declared.die.Die.{Die}
-use Rattle.om_names.specs.OpenEntries.{closed, is_last_inside}
-use Rattle.om_names.specs.Variables.{Placed, above, is_function, placed_behind}
-use Rattle.om_names.specs.declared.fixed.Fixed.{Fixed}
+use Rattle.om_names.specs.Above.{Placed, above, placed_behind}
+use Rattle.om_names.specs.Around.{around}
+use Rattle.om_names.specs.OpenEntries.{closed, last_inside}
+use Rattle.om_names.specs.declared.found.Found.{Found}
+use Rattle.om_names.specs.declared.names.Names.{Names}
 use Rattle.om_names.specs.declared.open_entries.Open.{Open}
 
 -- ---- the entries above
@@ -38,37 +39,10 @@ Falls (die ∷ line) = (line ≡ above die.depth line) × Falls line
 
 -- ---- the stack
 
--- a stack tells, of each entry of a line, whether it is a subprogram or stands below one
-pub Tells : List Open → List Die → Type 0
-Tells [] [] = Unit {0}
-Tells [] (die ∷ line) = ⊥
-Tells (last ∷ stack) [] = ⊥
-Tells (last ∷ stack) (die ∷ line) = (last.depth ≡ die.depth) × (last.is_inside ≡ list_any is_function (die ∷ line)) × Tells stack line
-
-closed_tells : (depth : ℕ) (stack : List Open) (line : List Die) → Tells stack line → Falls line → Tells (closed depth stack) (above depth line) × Falls (above depth line)
-unfolding Tells Falls closed above
-closed_tells depth [] [] tells falls = (tt, tt)
-closed_tells depth [] (die ∷ line) tells falls = absurd tells
-closed_tells depth (last ∷ stack) [] tells falls = absurd tells
-closed_tells depth (last ∷ stack) (die ∷ line) tells falls =
-    elim (cases_lt die.depth depth) [
-      | inl less ↦ let also : last.depth < depth = omega arith in rw (lt-ltb _ _ less, lt-ltb _ _ also) (subst (λ ds. Tells (last ∷ stack) (die ∷ ds) × Falls (die ∷ ds)) falls.0 (tells, falls))
-      | inr more ↦ let also : depth ≤ last.depth = omega arith in rw (le-ltb _ _ more, le-ltb _ _ also) (closed_tells depth stack line tells.2 falls.1)
-    ]
-
 -- the entries that are open behind some entries, the last first
 pub opened : List Die → List Die
 opened [] = []
 opened (die ∷ before) = die ∷ above die.depth before
-
--- the stack is right behind some entries
-pub record IsStack (stack : List Open) (before : List Die) : Type 0 where
-  pub tells : Tells stack (opened before)
-  pub falls : Falls (opened before)
-
-pub no_stack : IsStack [] []
-unfolding Tells Falls opened
-no_stack = record { tells = tt; falls = tt }
 
 -- above the next entry stand those that it leaves open
 above_opened : (depth : ℕ) (before : List Die) → above depth (opened before) ≡ above depth before
@@ -80,29 +54,57 @@ above_opened depth (die ∷ before) =
       | inr more ↦ rw (le-ltb _ _ more) (sym (above_again depth die.depth before more))
     ]
 
-inside_told : (stack : List Open) (line : List Die) → Tells stack line → is_last_inside stack ≡ list_any is_function line
-unfolding Tells
-inside_told [] [] tells = refl
-inside_told [] (die ∷ line) tells = absurd tells
-inside_told (last ∷ stack) [] tells = absurd tells
-inside_told (last ∷ stack) (die ∷ line) tells = tells.1
+module _ (names : Names) (ranges : List ℕ) (base : ℕ) where
+  -- a stack tells, of each entry of a line, what the entries stand in that stand right below it
+  pub Tells : List Open → List Die → Type 0
+  Tells [] [] = Unit {0}
+  Tells [] (die ∷ line) = ⊥
+  Tells (last ∷ stack) [] = ⊥
+  Tells (last ∷ stack) (die ∷ line) = (last.depth ≡ die.depth) × (last.inside ≡ around names ranges base (die ∷ line)) × Tells stack line
 
-module _ (stack : List Open) (before : List Die) (is : IsStack stack before) where
-  -- the last entry that is open tells whether the next one stands below a subprogram
-  pub inside_is : (depth : ℕ) → is_last_inside (closed depth stack) ≡ list_any is_function (above depth before)
-  inside_is depth =
-      inside_told (closed depth stack) (above depth (opened before)) (closed_tells depth stack (opened before) is.tells is.falls).0 ∙ ap (list_any is_function) (above_opened depth before)
+  closed_tells : (depth : ℕ) (stack : List Open) (line : List Die) → Tells stack line → Falls line → Tells (closed depth stack) (above depth line) × Falls (above depth line)
+  unfolding Tells Falls closed above
+  closed_tells depth [] [] tells falls = (tt, tt)
+  closed_tells depth [] (die ∷ line) tells falls = absurd tells
+  closed_tells depth (last ∷ stack) [] tells falls = absurd tells
+  closed_tells depth (last ∷ stack) (die ∷ line) tells falls =
+      elim (cases_lt die.depth depth) [
+        | inl less ↦ let also : last.depth < depth = omega arith in rw (lt-ltb _ _ less, lt-ltb _ _ also) (subst (λ ds. Tells (last ∷ stack) (die ∷ ds) × Falls (die ∷ ds)) falls.0 (tells, falls))
+        | inr more ↦ let also : depth ≤ last.depth = omega arith in rw (le-ltb _ _ more, le-ltb _ _ also) (closed_tells depth stack line tells.2 falls.1)
+      ]
 
-  pub stack_more : (die : Die) (new : Open) → new.depth ≡ die.depth → new.is_inside ≡ list_any is_function (die ∷ above die.depth before) → IsStack (new ∷ closed die.depth stack) (die ∷ before)
+  -- the stack is right behind some entries
+  pub record IsStack (stack : List Open) (before : List Die) : Type 0 where
+    pub tells : Tells stack (opened before)
+    pub falls : Falls (opened before)
+
+  pub no_stack : IsStack [] []
   unfolding Tells Falls opened
-  stack_more die new depth_is inside =
-      let both = closed_tells die.depth stack (opened before) is.tells is.falls in
-      let kept : Tells (closed die.depth stack) (above die.depth before) = subst (Tells (closed die.depth stack)) (above_opened die.depth before) both.0 in
-      let fallen : Falls (above die.depth before) = subst Falls (above_opened die.depth before) both.1 in
-      record {
-        tells = (depth_is, inside, kept);
-        falls = (above_again die.depth die.depth before (omega arith), fallen);
-      }
+  no_stack = record { tells = tt; falls = tt }
+
+  inside_told : (stack : List Open) (line : List Die) → Tells stack line → last_inside stack ≡ around names ranges base line
+  unfolding Tells around
+  inside_told [] [] tells = refl
+  inside_told [] (die ∷ line) tells = absurd tells
+  inside_told (last ∷ stack) [] tells = absurd tells
+  inside_told (last ∷ stack) (die ∷ line) tells = tells.1
+
+  module _ (stack : List Open) (before : List Die) (is : IsStack stack before) where
+    -- the last entry that is open tells what the next one stands in
+    pub inside_is : (depth : ℕ) → last_inside (closed depth stack) ≡ around names ranges base (above depth before)
+    inside_is depth =
+        inside_told (closed depth stack) (above depth (opened before)) (closed_tells depth stack (opened before) is.tells is.falls).0 ∙ ap (around names ranges base) (above_opened depth before)
+
+    pub stack_more : (die : Die) (new : Open) → new.depth ≡ die.depth → new.inside ≡ around names ranges base (die ∷ above die.depth before) → IsStack (new ∷ closed die.depth stack) (die ∷ before)
+    unfolding Tells Falls opened
+    stack_more die new depth_is inside_is =
+        let both = closed_tells die.depth stack (opened before) is.tells is.falls in
+        let kept : Tells (closed die.depth stack) (above die.depth before) = subst (Tells (closed die.depth stack)) (above_opened die.depth before) both.0 in
+        let fallen : Falls (above die.depth before) = subst Falls (above_opened die.depth before) both.1 in
+        record {
+          tells = (depth_is, inside_is, kept);
+          falls = (above_again die.depth die.depth before (omega arith), fallen);
+        }
 
 -- ---- the end of a stack
 
@@ -149,11 +151,11 @@ pub close_none : (depth : ℕ) (stack items : List Open) → stack ≡ items →
 unfolding closed
 close_none depth stack items same is = let none : items ≡ [] = sym same ∙ none_here stack is in rw none refl
 
-pub inside_some : (last : Open) (stack : List Open) → Some last ≡ slice_get stack (length stack - 1) → last.is_inside ≡ is_last_inside (reverse stack)
-inside_some last stack is = sym (ap is_last_inside (last_first stack last is))
+pub inside_some : (last : Open) (stack : List Open) → Some last ≡ slice_get stack (length stack - 1) → last.inside ≡ last_inside (reverse stack)
+inside_some last stack is = sym (ap last_inside (last_first stack last is))
 
-pub inside_none : (stack : List Open) → None ≡ slice_get stack (length stack - 1) → is_last_inside [] ≡ is_last_inside (reverse stack)
-inside_none stack is = ap (λ xs. is_last_inside (reverse xs)) (sym (none_here stack is))
+pub inside_none : (stack : List Open) → None ≡ slice_get stack (length stack - 1) → last_inside [] ≡ last_inside (reverse stack)
+inside_none stack is = ap (λ xs. last_inside (reverse xs)) (sym (none_here stack is))
 
 -- ---- the walk
 
@@ -165,16 +167,16 @@ one_first : {X Y : Type 0} (h : X → Option Y) (x : X) (xs : List X) (o : Optio
 one_first h x xs None is = rw is refl
 one_first h x xs (Some y) is = rw is refl
 
-module _ (find : Placed → Option Fixed) where
+module _ (find : Placed → Option Found) where
   -- what is found among some entries, and what is still to come among those behind them
-  pub ToCome : List Die → ℕ → List Fixed → List Fixed → Type 0
+  pub ToCome : List Die → ℕ → List Found → List Found → Type 0
   ToCome dies i found all = found ++ filter_map find (placed_behind (reverse (take i dies)) (drop i dies)) ≡ all
 
-  pub come_first : (dies : List Die) (old : List Fixed) → ToCome dies 0 old (old ++ filter_map find (placed_behind [] dies))
+  pub come_first : (dies : List Die) (old : List Found) → ToCome dies 0 old (old ++ filter_map find (placed_behind [] dies))
   unfolding ToCome
   come_first dies old = refl
 
-  come_by : (before rest : List Die) (die : Die) (found new all : List Fixed) (one : Option Fixed) → find (record { die = die; line = above die.depth before }) ≡ one
+  come_by : (before rest : List Die) (die : Die) (found new all : List Found) (one : Option Found) → find (record { die = die; line = above die.depth before }) ≡ one
       → found ++ filter_map find (placed_behind before (die ∷ rest)) ≡ all → new ≡ found ++ option_to_list one → new ++ filter_map find (placed_behind (die ∷ before) rest) ≡ all
   unfolding placed_behind
   come_by before rest die found new all one one_is is new_is =
@@ -182,7 +184,7 @@ module _ (find : Placed → Option Fixed) where
       ∙ append_assoc found (option_to_list one) (filter_map find (placed_behind (die ∷ before) rest))
       ∙ ap (λ xs. found ++ xs) (sym (one_first find (record { die = die; line = above die.depth before }) (placed_behind (die ∷ before) rest) one one_is)) ∙ is
 
-  pub come_more : (dies : List Die) (i : ℕ) (die d : Die) (found new all : List Fixed) (one : Option Fixed) → i < length dies → die ≡ get_or dies i d → ToCome dies i found all
+  pub come_more : (dies : List Die) (i : ℕ) (die d : Die) (found new all : List Found) (one : Option Found) → i < length dies → die ≡ get_or dies i d → ToCome dies i found all
       → find (record { die = die; line = above die.depth (reverse (take i dies)) }) ≡ one → new ≡ found ++ option_to_list one → ToCome dies (i + 1) new all
   unfolding ToCome
   come_more dies i die d found new all one within at is one_is new_is =
@@ -193,7 +195,7 @@ module _ (find : Placed → Option Fixed) where
       (subst (λ xs. new ++ filter_map find (placed_behind xs (drop (suc i) dies)) ≡ all) (sym (seen_more dies i die d within at))
       (come_by (reverse (take i dies)) (drop (suc i) dies) die found new all one one_is front new_is))
 
-  pub all_come : (dies : List Die) (i : ℕ) (found all : List Fixed) → length dies ≤ i → ToCome dies i found all → found ≡ all
+  pub all_come : (dies : List Die) (i : ℕ) (found all : List Found) → length dies ≤ i → ToCome dies i found all → found ≡ all
   unfolding ToCome placed_behind
   all_come dies i found all past is =
       sym (append-nil found) ∙ subst (λ xs. found ++ filter_map find (placed_behind (reverse (take i dies)) xs) ≡ all) (drop_all i dies past) is

@@ -15,6 +15,9 @@ DW_TAG_pointer_type = 0x0f
 abbrev pub DW_TAG_typedef : ℕ
 DW_TAG_typedef = 0x16
 
+abbrev pub DW_TAG_inlined_subroutine : ℕ
+DW_TAG_inlined_subroutine = 0x1d
+
 abbrev pub DW_TAG_base_type : ℕ
 DW_TAG_base_type = 0x24
 
@@ -43,6 +46,9 @@ DW_AT_declaration = 0x3c
 
 abbrev pub DW_AT_encoding : ℕ
 DW_AT_encoding = 0x3e
+
+abbrev pub DW_AT_frame_base : ℕ
+DW_AT_frame_base = 0x40
 
 -- ---- encodings of base types: section 7.8, figure 25
 

@@ -1,4 +1,4 @@
--- The debugging information of an executable: its units, the section of range lists, and the line tables.
+-- The debugging information of an executable: its units, the section of range lists, the line tables, and the section of frames.
 use Rattle.std.specs.Prelude.{ℕ, Bool, nat_eq, List, [], flat_map, map, Option, codes, unwrap_or}
 use Rattle.om_die.specs.Constants.{DW_TAG_lexical_block, DW_TAG_subprogram}
 use Rattle.om_die.specs.Units.{Sections, attribute_of}
@@ -17,9 +17,11 @@ pub record Information : Type 0 where
   pub ranges : List ℕ
   -- the tables of .debug_line that the units name, in their order
   pub lines : List Lines
+  -- the section .debug_frame
+  pub frames : List ℕ
 
-abbrev pub info_of : Units → List ℕ → List Lines → Information
-info_of units ranges lines = record { units = units; ranges = ranges; lines = lines }
+abbrev pub info_of : Units → List ℕ → List Lines → List ℕ → Information
+info_of units ranges lines frames = record { units = units; ranges = ranges; lines = lines; frames = frames }
 
 -- the bytes of a section, none where there is no such section
 abbrev pub section : Elf → List ℕ → List ℕ

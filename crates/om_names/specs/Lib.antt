@@ -10,10 +10,16 @@ pub mod Names
 pub mod ListEnds
 pub mod EntryByEntry
 pub mod NameOrder
+pub mod Above
+pub mod FixedVariables
+pub mod LocalVariables
 pub mod Variables
+pub mod Around
 pub mod OpenEntries
-pub mod FixedList
+pub mod FoundList
+pub mod Stretches
 pub mod ByName
 pub mod KeptVariables
 pub mod Facts
 pub mod Known
+pub mod NamePieces

@@ -1,5 +1,6 @@
 -- What an executable's debugging information is, and why it may be refused, stage by stage.
 use Rattle.std.specs.Prelude.{ℕ, List, codes, Ok, Err}
+use Rattle.om_cfi.specs.Frames.{frames_fault}
 use Rattle.om_die.specs.Units.{AreUnits}
 use Rattle.om_die.specs.Refusals.{IsRefusal}
 use Rattle.om_die.specs.declared.unit.Units.{Units}
@@ -26,6 +27,13 @@ ranges_stage elf units =
 abbrev pub lines_stage : Elf → Units → Stage (List Lines)
 lines_stage elf units = gives_unless (line_fault elf units) (line_tables elf units) n.Lines
 
+abbrev pub frame_section : Elf → List ℕ
+frame_section elf = section elf (codes ".debug_frame")
+
+-- .debug_frame: the section, unless an entry has a fault
+abbrev pub frames_stage : Elf → Stage (List ℕ)
+frames_stage elf = gives_unless (frames_fault (frame_section elf)) (frame_section elf) n.Frame
+
 -- the types of variables and parameters, unless one leads too far
 abbrev pub types_stage : Units → Stage (Unit {0})
 types_stage units = gives_unless (type_fault units) tt n.TypeLoop
@@ -36,8 +44,9 @@ all_stages elf =
     followed_by (units_stage elf) (λ units.
     followed_by (ranges_stage elf units) (λ ranges.
     followed_by (lines_stage elf units) (λ lines.
+    followed_by (frames_stage elf) (λ frames.
     followed_by (types_stage units) (λ typed.
-    giving (info_of units ranges lines)))))
+    giving (info_of units ranges lines frames))))))
 
 -- ---- what comes of them
 

@@ -1,93 +1,68 @@
--- Variables outside functions: DWARF 4, sections 4.1 "Data Object Entries" and 2.6.1 "Single Location Descriptions".
-use Rattle.std.specs.Prelude.{ℕ, ◌-◌, ◌*◌, ◌^◌, pos, neg_ℤ, Bool, true, false, ◌&&◌, ◌||◌, not, nat_eq, nat_lt, if◌then◌else◌, List, [], ◌∷◌, ◌++◌, bytes_eq, filter, filter_map, flat_map, fold, map, slice_get, unwrap_or, Option, Some, None}
+-- Variables, and which of them a name means: DWARF 4, sections 4.1 "Data Object Entries" and 2.6.1 "Single Location Descriptions".
+use Rattle.std.specs.Prelude.{ℕ, ◌-◌, ◌*◌, ◌^◌, pos, neg_ℤ, Bool, true, false, ◌&&◌, ◌||◌, not, nat_eq, nat_le, nat_lt, if◌then◌else◌, List, [], ◌∷◌, ◌++◌, bytes_eq, filter, filter_map, find, flat_map, fold, map, slice_get, unwrap_or, Option, Some, None}
 use Rattle.std.specs.Int.{int_max, int_min}
-use Rattle.std.specs.List.{list_any}
-use Rattle.std.specs.Option.{option_and_then, option_map}
+use Rattle.std.specs.List.{list_all, list_any}
+use Rattle.std.specs.Option.{option_and_then, option_map, option_or}
 use Rattle.om_base.specs.declared.interval.Interval.{Interval}
-use Rattle.om_die.specs.AttributeValue.{Value}
-use Rattle.om_die.specs.AttributeValue as v
-use Rattle.om_die.specs.Constants.{DW_TAG_subprogram}
+use Rattle.om_base.specs.declared.span.Span.{Span}
 use Rattle.om_die.specs.Units.{dies_of_units}
 use Rattle.om_die.specs.declared.die.Die.{Die}
+use Rattle.om_die.specs.declared.unit.Unit.{Unit}
 use Rattle.om_die.specs.declared.unit.Units.{Units}
 use Rattle.om_eval.specs.declared.catalog.VarInfo.{VarInfo}
-use Rattle.om_loc.specs.Places.{place_of}
-use Rattle.om_loc.specs.declared.place.Place.{Place}
 use Rattle.om_loc.specs.declared.place.Place.TheVariants as p
-use Rattle.om_names.specs.Constants.{DW_AT_declaration, DW_AT_location, DW_TAG_variable}
-use Rattle.om_names.specs.Functions.{name_among}
-use Rattle.om_names.specs.Information.{value_of}
-use Rattle.om_names.specs.Types.{kind_in, sizes, typing_of}
+use Rattle.om_names.specs.Above.{Placed, placed_behind}
+use Rattle.om_names.specs.FixedVariables.{fixed_of}
+use Rattle.om_names.specs.LocalVariables.{local_of, scope_above}
+use Rattle.om_names.specs.Ranges.{hold}
+use Rattle.om_names.specs.Types.{sizes}
 use Rattle.om_names.specs.declared.fixed.Fixed.{Fixed}
 use Rattle.om_names.specs.declared.held.Held.{Held}
 use Rattle.om_names.specs.declared.kind.Kind.{Kind}
+use Rattle.om_names.specs.declared.variable.Variable.{Variable}
+use Rattle.om_names.specs.declared.variable.Variable.TheVariants as var
 
--- ---- what stands above an entry
+-- ---- variables
 
--- of the entries of a unit before one of a depth, the last first, those that it stands below, the nearest first: each is less deep
--- than it, and than all between
-unfoldable pub above : ℕ → List Die → List Die
-above depth [] = []
-above depth (die ∷ before) = if nat_lt die.depth depth then die ∷ above die.depth before else above depth before
+abbrev pub name_of : Variable → List ℕ
+name_of (var.Fixed fixed) = fixed.name
+name_of (var.Local local) = local.name
 
--- an entry with those that it stands below, the nearest first
-pub record Placed : Type 0 where
-  pub die : Die
-  pub line : List Die
+-- the numbers of its type, if that is scalar
+abbrev pub kind_of : Variable → Option Kind
+kind_of (var.Fixed fixed) = fixed.kind
+kind_of (var.Local local) = local.kind
 
--- the entries of a unit behind some others, which are given the last first
-unfoldable pub placed_behind : List Die → List Die → List Placed
-placed_behind before [] = []
-placed_behind before (die ∷ dies) = record { die = die; line = above die.depth before } ∷ placed_behind (die ∷ before) dies
+-- how many entries it stands below
+abbrev pub depth_of : Variable → ℕ
+depth_of (var.Fixed fixed) = 0
+depth_of (var.Local local) = local.depth
 
--- the entries of all units
-abbrev pub placed_in : Units → List Placed
-placed_in units = flat_map (λ unit. placed_behind [] unit.dies) units.list
+abbrev pub if_fixed : Variable → Option Fixed
+if_fixed (var.Fixed fixed) = Some fixed
+if_fixed (var.Local local) = None
 
--- ---- fixed variables
+-- the fixed ones
+abbrev pub fixed_among : List Variable → List Fixed
+fixed_among variables = filter_map if_fixed variables
 
--- an entry is a subprogram
-abbrev pub is_function : Die → Bool
-is_function die = nat_eq die.tag DW_TAG_subprogram
+-- a variable with the addresses of code that it is in scope at; of a fixed one they aren't told
+pub record Scoped : Type 0 where
+  pub variable : Variable
+  pub scope : List Span
 
--- a value that is a flag, and true
-abbrev pub is_flagged : Option Value → Bool
-is_flagged (Some (v.Flag flag)) = flag
-is_flagged value = false
+-- the variable that an entry of a unit is, if it is one
+unfoldable pub variable_of : List ℕ → Unit → List Die → Placed → Option Scoped
+variable_of ranges unit dies placed =
+    option_or (option_map (λ fixed. record { variable = var.Fixed fixed; scope = [] }) (fixed_of dies placed))
+    (option_map (λ local. record { variable = var.Local local; scope = scope_above ranges unit placed.line }) (local_of dies placed))
 
--- a value that is a block
-abbrev pub block_in : Option Value → Option (List ℕ)
-block_in (Some (v.Block bytes)) = Some bytes
-block_in value = None
+-- those of some units, in the order of units and entries, where this is the section of range lists
+unfoldable pub variables_in : List ℕ → Units → List Scoped
+variables_in ranges units = flat_map (λ unit. filter_map (variable_of ranges unit (dies_of_units units.list)) (placed_behind [] unit.dies)) units.list
 
--- a place that is an address
-abbrev pub address_of : Place → Option ℕ
-address_of (p.Fixed address) = Some address
-address_of place = None
-
--- the address that an entry's DW_AT_location says, if it is one
-abbrev pub fixed_address : Die → Option ℕ
-fixed_address die = option_and_then (λ block. address_of (place_of block)) (block_in (value_of DW_AT_location die))
-
--- an entry is a mere declaration
-abbrev pub is_declaration : Die → Bool
-is_declaration die = is_flagged (value_of DW_AT_declaration die)
-
--- an entry is a variable, no mere declaration, and stands below no subprogram
-abbrev pub is_outside : Placed → Bool
-is_outside placed = nat_eq placed.die.tag DW_TAG_variable && (not (list_any is_function placed.line) && not (is_declaration placed.die))
-
--- the fixed variable that an entry is, if it is one: it has a name and an address
-unfoldable pub fixed_of : List Die → Placed → Option Fixed
-fixed_of dies placed =
-    if is_outside placed then
-    option_and_then (λ name. option_map (λ address. record { name = name; address = address; kind = kind_in (typing_of dies placed.die) }) (fixed_address placed.die))
-    (name_among dies placed.die)
-    else None
-
--- those of some units, in the order of units and entries
-unfoldable pub fixed_in : Units → List Fixed
-fixed_in units = filter_map (fixed_of (dies_of_units units.list)) (placed_in units)
+abbrev pub founds : List Scoped → List Variable
+founds scoped = map (λ it. it.variable) scoped
 
 -- ---- what variables of one name have in common
 
@@ -106,8 +81,8 @@ widened None interval = Some interval
 widened (Some hull) interval = Some (record { lo = int_min hull.lo interval.lo; hi = int_max hull.hi interval.hi })
 
 -- the hull of the numbers of some variables, if there are any
-abbrev pub hull_of : List Fixed → Option Interval
-hull_of fixed = fold widened None (filter_map (λ it. option_and_then interval_of it.kind) fixed)
+abbrev pub hull_of : List Variable → Option Interval
+hull_of variables = fold widened None (filter_map (λ it. option_and_then interval_of (kind_of it)) variables)
 
 -- what counts as a variable's kind: of one whose type isn't scalar no bytes, without a sign
 abbrev pub counted_kind : Fixed → Kind
@@ -134,43 +109,74 @@ abbrev pub with_name : List (List ℕ) → List ℕ → List (List ℕ)
 with_name names name = if list_any (bytes_eq name) names then names else names ++ name ∷ []
 
 -- the names of some variables, each once, in the order in which they first appear
-unfoldable pub names_in : List Fixed → List (List ℕ)
-names_in fixed = fold with_name [] (map (λ it. it.name) fixed)
+unfoldable pub names_in : List Variable → List (List ℕ)
+names_in variables = fold with_name [] (map name_of variables)
 
 -- the variables of a name
-abbrev pub named : List Fixed → List ℕ → List Fixed
-named fixed name = filter (λ it. bytes_eq name it.name) fixed
+abbrev pub named : List Variable → List ℕ → List Variable
+named variables name = filter (λ it. bytes_eq name (name_of it)) variables
 
--- what is known of some variables of one name
-abbrev pub info_of : List Fixed → List ℕ → VarInfo
-info_of fixed name = record { name = name; scalar = hull_of fixed; ambiguous = is_ambiguous fixed; fixed = true }
+-- there are some
+abbrev pub are_some : List Fixed → Bool
+are_some [] = false
+are_some (first ∷ others) = true
 
--- the catalog of some fixed variables
-unfoldable pub catalog_of : List Fixed → List VarInfo
-catalog_of fixed = map (λ name. info_of (named fixed name) name) (names_in fixed)
+-- what is known of some variables of one name: that there is a fixed one makes it a fixed name
+abbrev pub info_of : List Variable → List ℕ → VarInfo
+info_of variables name = record { name = name; scalar = hull_of variables; ambiguous = is_ambiguous (fixed_among variables); fixed = are_some (fixed_among variables) }
+
+-- the catalog of some variables
+unfoldable pub catalog_of : List Variable → List VarInfo
+catalog_of variables = map (λ name. info_of (named variables name) name) (names_in variables)
 
 -- ---- the variable that is meant
 
--- where a variable's number is
+-- where a fixed variable's number is
 abbrev pub held_at : Fixed → Option Held
 held_at fixed = option_map (λ kind. record { place = p.Fixed fixed.address; base = p.Gone; kind = kind }) fixed.kind
 
--- of some variables of one name, unless it is ambiguous, the first is meant
+-- of some fixed variables of one name, unless it is ambiguous, the first is meant
 abbrev pub first_held : List Fixed → Option Held
 first_held [] = None
 first_held (first ∷ others) = if is_ambiguous (first ∷ others) then None else held_at first
 
--- where the number is of the name at a place of the catalog, if it means a variable of a scalar type
-unfoldable pub held_in : List Fixed → ℕ → Option Held
-held_in fixed place = option_and_then (λ name. first_held (named fixed name)) (slice_get (names_in fixed) place)
+-- where a local variable's number is
+abbrev pub local_held : Variable → Option Held
+local_held (var.Fixed fixed) = None
+local_held (var.Local local) = option_map (λ kind. record { place = local.place; base = local.base; kind = kind }) local.kind
+
+-- a variable has a name, and is in scope at an address, which has 32 bits
+abbrev pub is_in_scope : List ℕ → ℕ → Scoped → Bool
+is_in_scope name pc it = nat_lt pc (2 ^ 32) && (bytes_eq name (name_of it.variable) && hold it.scope pc)
+
+-- of some variables none stands below more entries than this one
+abbrev pub is_deepest : List Scoped → Scoped → Bool
+is_deepest scoped it = list_all (λ other. nat_le (depth_of other.variable) (depth_of it.variable)) scoped
+
+-- the deepest of some variables, of equals the first
+abbrev pub deepest : List Scoped → Option Scoped
+deepest scoped = find (is_deepest scoped) scoped
+
+-- the fixed variable of a name, or else the deepest local one that is in scope at an address
+abbrev pub held_by_name : List Fixed → Option Held → Option Held
+held_by_name [] local = local
+held_by_name (first ∷ others) local = first_held (first ∷ others)
+
+unfoldable pub meant : List Scoped → List ℕ → ℕ → Option Held
+meant scoped name pc =
+    held_by_name (fixed_among (named (founds scoped) name)) (option_and_then (λ it. local_held it.variable) (deepest (filter (is_in_scope name pc) scoped)))
+
+-- where the number is of the name at a place of the catalog, at an address, if it means a variable of a scalar type
+unfoldable pub held_in : List Scoped → ℕ → ℕ → Option Held
+held_in scoped place pc = option_and_then (λ name. meant scoped name pc) (slice_get (names_in (founds scoped)) place)
 
 -- ---- what is told of variables
 
 pub record VariableFacts : Type 0 where
   -- the names, with what is known of each
   pub catalog : List VarInfo
-  -- by the place of a name in the catalog, where the variable is that it means
-  pub held : ℕ → Option Held
+  -- by the place of a name in the catalog and by an address, where the variable is that it means
+  pub held : ℕ → ℕ → Option Held
 
-abbrev pub variable_facts : Units → VariableFacts
-variable_facts units = record { catalog = catalog_of (fixed_in units); held = held_in (fixed_in units) }
+abbrev pub variable_facts : List Scoped → VariableFacts
+variable_facts scoped = record { catalog = catalog_of (founds scoped); held = held_in scoped }

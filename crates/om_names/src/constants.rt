@@ -9,6 +9,8 @@ pub const DW_TAG_POINTER_TYPE: u32 = 0x0f;
 
 pub const DW_TAG_TYPEDEF: u32 = 0x16;
 
+pub const DW_TAG_INLINED_SUBROUTINE: u32 = 0x1d;
+
 pub const DW_TAG_BASE_TYPE: u32 = 0x24;
 
 pub const DW_TAG_CONST_TYPE: u32 = 0x26;
@@ -27,6 +29,8 @@ pub const DW_AT_BYTE_SIZE: u32 = 0x0b;
 pub const DW_AT_DECLARATION: u32 = 0x3c;
 
 pub const DW_AT_ENCODING: u32 = 0x3e;
+
+pub const DW_AT_FRAME_BASE: u32 = 0x40;
 
 // Encodings of base types: section 7.8, figure 25.
 pub const DW_ATE_BOOLEAN: u64 = 0x02;

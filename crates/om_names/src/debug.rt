@@ -1,6 +1,8 @@
 //! The debugging information of an executable.
 
-ghost use Rattle.std.specs.Prelude.{◌≡◌, ◌⊎◌, ◌<◌, ◌^◌, length, List, All, Ok, Err, IfOk, IfErr};
+ghost use Rattle.std.specs.Prelude.{◌≡◌, ◌⊎◌, ◌<◌, ◌^◌, ℕ, length, List, All, Ok, Err, IfOk, IfErr};
+ghost use Rattle.om_cfi.specs.Frames.{rules_in};
+ghost use Rattle.om_cfi.specs.Kept.{rules_told_by};
 ghost use Rattle.om_die.specs.Units.{dies_of_units};
 ghost use Rattle.om_elf.specs.Piece.{IsShort};
 ghost use Rattle.om_names.specs.Information as spec;
@@ -12,8 +14,8 @@ ghost use Rattle.om_names.specs.Known.{Knows, told_by};
 ghost use Rattle.om_names.specs.KeptVariables.{told_in};
 ghost use Rattle.om_names.specs.LineTables.{line_tables};
 ghost use Rattle.om_names.specs.Names.{AreNames};
-ghost use Rattle.om_names.specs.Stages.{IsLawful, IsRefused, lines_stage, ranges_stage, units_stage};
-ghost use Rattle.om_names.specs.Variables.{variable_facts};
+ghost use Rattle.om_names.specs.Stages.{IsLawful, IsRefused, frame_section, frames_stage, lines_stage, ranges_stage, units_stage};
+ghost use Rattle.om_names.specs.Variables.{variable_facts, variables_in};
 
 use crate::debug_counts::Counts;
 use crate::fault::NamesFault;
@@ -25,6 +27,7 @@ use crate::list_ends::list_ends;
 use crate::names::{Names, read_names};
 use crate::variables::{Variables, read_variables};
 use om_base::{Items, Name, NoMemory};
+use om_cfi::{CfiFault, Frames, read_frames};
 use om_claims::{ClaimIndex, index_of};
 use om_die::{DieFault, Units, read_units};
 use om_elf::Elf;
@@ -42,6 +45,7 @@ pub struct Debug<'a> {
     /// For each range the name of its function, if it has one.
     names: Items<Option<Name<'a>>>,
     lines: LineTables<'a>,
+    frames: Frames,
     variables: Variables<'a>,
     counts: Counts,
 }
@@ -52,9 +56,9 @@ impl<'a> Model for Debug<'a> {
 
     ghost Value = { Known };
 
-    ghost view = { λ it. record { pieces = it.index; names = it.names; lines = it.lines; variables = it.variables; counts = it.counts } };
+    ghost view = { λ it. record { pieces = it.index; names = it.names; lines = it.lines; frames = it.frames; variables = it.variables; counts = it.counts } };
 
-    ghost use Rattle.om_names.specs.Known.{AreOfClaims};
+    ghost use Rattle.om_names.specs.KeptVariables.{AreOfClaims};
 
     ghost invariant = { λ it. AreOfClaims it.index };
 }
@@ -87,21 +91,34 @@ impl<'a> Debug<'a> {
         self.lines.file_at(pc)
     }
 
-    /// The names of the variables outside functions, with what is known of each.
+    /// The names of variables, with what is known of each. One of a function's own is named by the function, a point and itself.
     #[tactic(auto, unfolding(crate::specs::Known::told_by))]
     pub fn catalog(&self) -> &Catalog<'a>
         ensures { result.now ≡ (told_by self.now).variables.catalog }
     {
-        &self.variables.catalog
+        self.variables.catalog()
     }
 
-    /// Where the variable is that the name at a place of the catalog means. None where the name is ambiguous,
-    /// or the variable's type isn't scalar.
+    /// Where the variable is that the name at a place of the catalog means at an address. None where the name
+    /// is ambiguous, no variable of it is in scope, or the variable's type isn't scalar.
+    ///
+    /// Makes at most one binary search, and takes no memory.
     #[tactic(auto, unfolding(crate::specs::Known::told_by))]
-    pub fn variable(&self, place: u32) -> Option<Held>
-        ensures { result ≡ (told_by self.now).variables.held place }
+    pub fn variable(&self, place: u32, pc: u32) -> Option<Held>
+        ensures { result ≡ (told_by self.now).variables.held place pc }
     {
-        self.variables.held(place as usize)
+        self.variables.held(place, pc)
+    }
+
+    /// The rule for the canonical frame address at an address: a register, and what is added to its content.
+    /// None where there is none.
+    ///
+    /// Makes one binary search, and takes no memory.
+    #[tactic(auto, unfolding(crate::specs::Known::told_by))]
+    pub fn cfa(&self, pc: u32) -> Option<(u8, i64)>
+        ensures { result ≡ (told_by self.now).cfa pc }
+    {
+        self.frames.cfa(pc)
     }
 
     /// How much there is.
@@ -195,19 +212,51 @@ fn read_lines<'a>(
     }
 }
 
-/// What is kept of units, range lists, line tables and variables.
+/// Why frames are refused.
+fn frame_fault(fault: CfiFault) -> NamesFault
+    ensures none { fault ≡ CfiFault.NoMemory → result ≡ NamesFault.NoMemory }
+    ensures told { (fault ≡ CfiFault.NoMemory → ⊥) → result ≡ NamesFault.Frame fault }
+{
+    match fault {
+        CfiFault::NoMemory => NamesFault::NoMemory,
+        _ => NamesFault::Frame(fault),
+    }
+}
+
+/// The rules of frames.
+fn read_rules(alloc: Global, elf: &Elf<'_>) -> Result<Frames, NamesFault>
+    requires { All IsShort elf.now.sections }
+    ensures stage { IfOk result (λ _. frames_stage elf.now (Ok (frame_section elf.now))) }
+    ensures kept { IfOk result (λ kept. rules_told_by kept ≡ rules_in (frame_section elf.now)) }
+    ensures fault { IfErr result (λ fault. (fault ≡ NamesFault.NoMemory) ⊎ frames_stage elf.now (Err fault)) }
+{
+    match read_frames(alloc, section(elf, b".debug_frame")) {
+        Ok(frames) => Ok(frames),
+        Err(fault) => Err(frame_fault(fault)),
+    }
+}
+
+/// What the stages give besides the units and the section of range lists.
+#[derive(Debug, Drop)]
+struct Stages<'a> {
+    lines: LineTables<'a>,
+    frames: Frames,
+    variables: Variables<'a>,
+}
+
+/// What is kept of units, range lists and what the later stages give.
 fn know<'a>(
     alloc: Global,
     names: &Names<'a>,
     units: &Units<'a>,
     ranges: &[u8],
-    lines: LineTables<'a>,
-    variables: Variables<'a>,
+    given: Stages<'a>,
 ) -> Result<Debug<'a>, NoMemory>
     requires names { AreNames (dies_of_units units.now.list) names.now }
     requires units { length units.now.list < 2 ^ 32 }
     requires dies { length (dies_of_units units.now.list) < 2 ^ 32 }
-    ensures { (tables : List Lines) → lines_told_by lines.entry ≡ line_facts tables → told_in variables.entry ≡ variable_facts units.now → IfOk result (λ debug. Knows (info_of units.now ranges.now tables) debug) }
+    ensures { (tables : List Lines) (frames : List ℕ) → lines_told_by given.entry.lines ≡ line_facts tables → rules_told_by given.entry.frames ≡ rules_in frames
+        → told_in given.entry.variables ≡ variable_facts (variables_in ranges.now units.now) → IfOk result (λ debug. Knows (info_of units.now ranges.now tables frames) debug) }
 {
     let functions = read_functions(alloc, names, ranges, units)?;
     let index = index_of(alloc, functions.claims.as_slice())?;
@@ -216,10 +265,16 @@ fn know<'a>(
         skipped: units.skipped,
         functions: functions.count,
     };
+    let Stages {
+        lines,
+        frames,
+        variables,
+    } = given;
     Ok(Debug {
         index,
         names: functions.names,
         lines,
+        frames,
         variables,
         counts,
     })
@@ -234,9 +289,15 @@ fn read<'a>(alloc: Global, elf: &Elf<'a>) -> Result<Debug<'a>, NamesFault>
     let units = read_info(alloc, elf)?;
     let ranges = read_lists(alloc, elf, &units)?;
     let lines = read_lines(alloc, elf, &units)?;
+    let frames = read_rules(alloc, elf)?;
     let names = read_names(alloc, &units)?;
-    let variables = read_variables(alloc, &names, &units)?;
-    let debug = know(alloc, &names, &units, ranges, lines, variables)?;
+    let variables = read_variables(alloc, &names, ranges, &units)?;
+    let given = Stages {
+        lines,
+        frames,
+        variables,
+    };
+    let debug = know(alloc, &names, &units, ranges, given)?;
     Ok(debug)
 }
 

@@ -4,6 +4,7 @@ ghost use Rattle.std.specs.Prelude.{◌≡◌};
 ghost use Rattle.om_names.specs.declared.fault.NamesFault.TheVariants as fault;
 
 use om_base::NoMemory;
+use om_cfi::CfiFault;
 use om_die::DieFault;
 use om_line::LineFault;
 
@@ -18,6 +19,8 @@ pub enum NamesFault {
     Ranges(DieFault),
     /// A table of `.debug_line`, one that a unit names, isn't what it should be.
     Lines(LineFault),
+    /// An entry of `.debug_frame` isn't what it should be.
+    Frame(CfiFault),
     /// The type of a variable or a parameter of `.debug_info` takes too many typedefs, or leads back to
     /// itself.
     TypeLoop {

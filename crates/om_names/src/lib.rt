@@ -4,12 +4,14 @@
 //! The names and numbers of everything else in `.debug_info` aren't read from it.
 #![tactic(auto)]
 
+mod around;
 mod by_name;
 mod constants;
 mod debug;
 mod debug_counts;
 mod fault;
 mod fixed;
+mod found;
 mod functions;
 mod held;
 mod judging;
@@ -17,11 +19,17 @@ mod kind;
 mod laws;
 mod line_tables;
 mod list_ends;
+mod local;
 mod name_key;
+mod name_pieces;
 mod names;
 mod open_entries;
+mod places;
 mod ranges;
+mod scope;
+mod stretches;
 mod types;
+mod variable;
 mod variables;
 
 pub use debug::{Debug, read_debug};

@@ -7,7 +7,8 @@ ghost use Rattle.std.specs.Cmp.Lexicographic.{nat_list_eq_equiv};
 ghost use Rattle.std.specs.Ordering.{as_partial_cmp};
 ghost use Rattle.om_names.specs.NameOrder.{name_cmp, name_po, name_ties, name_total};
 
-use om_base::Name;
+use crate::name_pieces::{Pieces, compare};
+use om_eval::VariableName;
 use std::cmp::Ordering;
 use std::marker::Model;
 
@@ -17,7 +18,7 @@ use std::marker::Model;
 /// look at their bytes: those of an executable may be all the ends of one long string.
 #[derive(Debug, Drop)]
 pub struct NameKey<'a> {
-    name: Name<'a>,
+    name: VariableName<'a>,
 }
 
 // Clauses see the bytes.
@@ -31,19 +32,21 @@ impl<'a> Model for NameKey<'a> {
 
 impl<'a> NameKey<'a> {
     /// The key of a name.
-    pub fn of(name: &Name<'a>) -> NameKey<'a>
+    pub fn of(name: &VariableName<'a>) -> NameKey<'a>
         ensures { result ≡ name.now }
     {
-        NameKey {
-            name: Name::of(name.bytes()),
-        }
+        NameKey { name: name.again() }
     }
 
-    /// The bytes that spell the name.
-    fn bytes(&self) -> &'a [u8]
-        ensures { result.now ≡ self.now }
+    /// How it stands to another.
+    fn order(&self, other: &NameKey<'a>) -> Ordering
+        ensures { result ≡ name_cmp self.now other.now }
     {
-        self.name.bytes()
+        let (left, right) = (Pieces::of(&self.name), Pieces::of(&other.name));
+        match left.len().cmp(&right.len()) {
+            Ordering::Equal => compare(left, right),
+            apart => apart,
+        }
     }
 }
 
@@ -53,7 +56,7 @@ impl<'a> PartialEq for NameKey<'a> {
     ghost laws = { partial_equiv_from_equiv nat_list_eq_equiv };
 
     fn eq(&self, other: &NameKey<'a>) -> bool {
-        self.bytes() == other.bytes()
+        self.order(other).is_eq()
     }
 }
 
@@ -81,9 +84,6 @@ impl<'a> Ord for NameKey<'a> {
     ghost matches_eq = { name_ties };
 
     fn cmp(&self, other: &NameKey<'a>) -> Ordering {
-        match self.bytes().len().cmp(&other.bytes().len()) {
-            Ordering::Equal => self.bytes().cmp(other.bytes()),
-            apart => apart,
-        }
+        self.order(other)
     }
 }

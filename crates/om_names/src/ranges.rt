@@ -87,7 +87,7 @@ pub fn base_of(unit: &Unit) -> u32
 }
 
 /// The ranges of the list at an offset, none where it has no end.
-fn listed(
+pub fn listed(
     alloc: Global,
     section: &[u8],
     base: u32,

@@ -40,6 +40,16 @@ pub enum Typing {
     Loop,
 }
 
+/// The numbers of a type, where it is scalar.
+pub fn kind_in(typing: Typing) -> Option<Kind>
+    ensures { result ≡ spec.kind_in typing }
+{
+    match typing {
+        Typing::Scalar(kind) => Some(kind),
+        _ => None,
+    }
+}
+
 /// A constant; 0 where it is negative.
 fn constant(die: &Die, name: u32) -> Option<u64>
     ensures { result ≡ spec.constant name die.now }

@@ -9,3 +9,4 @@ pub mod Productions
 pub mod Takes
 pub mod ParseLaws
 pub mod TotalLaws
+pub mod PrefixLemmas

@@ -6,7 +6,7 @@ ghost use Rattle.om_eval.specs.declared.value.Owned.TheVariants.{Null};
 use om_base::{Interval, Name, NoMemory, Text};
 use om_eval::{
     Catalog, Cells, Column, ColumnId, Compare, Cond, Expr, LookMeter, Owned, RowView, Truth, Value,
-    VarInfo, look, recheck, truth_of, value_at, value_of,
+    VarInfo, VariableName, look, recheck, truth_of, value_at, value_of,
 };
 use sqlite_items::Items;
 use std::alloc::Global;
@@ -178,11 +178,27 @@ fn values_are_cells_and_numbers(rt: HostRuntime) -> Result<(), Fail> {
 
     let mut catalog: Catalog = om_base::Items::new(rt.alloc());
     catalog.push(VarInfo {
-        name: Name::of(b"counter"),
+        name: VariableName::of(None, Name::of(b"counter")),
         scalar: Some(Interval { lo: 0, hi: 255 }),
         ambiguous: false,
         fixed: true,
     })?;
     assert_eq!(rt; catalog.len(), 1);
+    Ok(())
+}
+
+#[test]
+fn a_name_has_its_pieces(rt: HostRuntime) -> Result<(), Fail> {
+    let outside = VariableName::of(None, Name::of(b"n")).again();
+    let (function, point, own) = outside.pieces();
+    assert_eq!(rt; function, b"".as_slice());
+    assert_eq!(rt; point, b"".as_slice());
+    assert_eq!(rt; own, b"n".as_slice());
+
+    let inside = VariableName::of(Some(Name::of(b"down")), Name::of(b"n")).again();
+    let (function, point, own) = inside.pieces();
+    assert_eq!(rt; function, b"down".as_slice());
+    assert_eq!(rt; point, b".".as_slice());
+    assert_eq!(rt; own, b"n".as_slice());
     Ok(())
 }

@@ -1,7 +1,7 @@
 //! Queries and what they ask: the tables, the condition's conjuncts, and the outputs with their names.
 
 use om_base::{Interval, Items, Name, NoMemory, Text, put_decimal};
-use om_eval::{Catalog, Column, ColumnId, Compare, Cond, Expr, VarInfo};
+use om_eval::{Catalog, Column, ColumnId, Compare, Cond, Expr, VarInfo, VariableName};
 use om_parse::{
     ColumnName, CompareOp, CondTree, ExprTree, Identifier, Item, Numeral, Query, TableName, parse,
 };
@@ -135,10 +135,20 @@ fn queries_ask_this(rt: HostRuntime) -> Result<(), Fail> {
 
 fn variable(name: &'static [u8], scalar: Option<Interval>, ambiguous: bool) -> VarInfo<'static> {
     VarInfo {
-        name: Name::of(name),
+        name: VariableName::of(None, Name::of(name)),
         scalar,
         ambiguous,
         fixed: true,
+    }
+}
+
+/// A variable of a function, which holds a byte.
+fn local(function: &'static [u8], own: &'static [u8]) -> VarInfo<'static> {
+    VarInfo {
+        name: VariableName::of(Some(Name::of(function)), Name::of(own)),
+        scalar: Some(Interval { lo: 0, hi: 255 }),
+        ambiguous: false,
+        fixed: false,
     }
 }
 
@@ -153,6 +163,11 @@ fn some_variables(alloc: Global) -> Result<Catalog<'static>, NoMemory> {
             variable(b"a\"b", byte, false),
             variable(b"counter", byte, true),
             variable(b"step", byte, false),
+            local(b"down", b"n"),
+            local(b"a\"", b"\"b"),
+            // Two with the same bytes, whose points stand apart.
+            local(b"a.b", b"c"),
+            local(b"a", b"b.c"),
         ],
     )?;
     Ok(Items::from_vec(variables))
@@ -170,6 +185,19 @@ fn queries_ask_this_of_variables(rt: HostRuntime) -> Result<(), Fail> {
             "SELECT \"a\"\"b\", \"step\" FROM states",
             "states: a\"b=0.v3 step=0.v5 where",
         ),
+        (
+            "SELECT \"down.n\" FROM states WHERE \"down.n\" < 2",
+            "states: down.n=0.v6 where 0.v6<2",
+        ),
+        (
+            "SELECT \"a\"\".\"\"b\", \"a.b.c\" FROM states",
+            "states: a\".\"b=0.v7 a.b.c=0.v8 where",
+        ),
+        // Only a part of a function's variable's name, and one with another byte for the point.
+        ("SELECT \"n\" FROM states", "unbuilt"),
+        ("SELECT \"down.\" FROM states", "unbuilt"),
+        ("SELECT \"down.nn\" FROM states", "unbuilt"),
+        ("SELECT \"down:n\" FROM states", "unbuilt"),
         // Ambiguous, of no scalar type, not there, in another case, and a column.
         ("SELECT \"twice\" FROM states", "unbuilt"),
         ("SELECT \"point\" FROM states", "unbuilt"),

@@ -25,7 +25,8 @@ pub fn variable_of(name: &Identifier<'_>, catalog: &Catalog) -> Option<u32>
 {
     let mut rest = catalog.as_slice();
     while let [info, others @ ..] = rest {
-        if name.says(info.name.bytes()) {
+        let (function, point, own) = info.name.pieces();
+        if name.says(function, point, own) {
             return place_of(catalog.len() - rest.len(), info);
         }
         rest = others;

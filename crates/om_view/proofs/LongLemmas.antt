@@ -1,9 +1,9 @@
 -- Numbers in memory: one of 8 bytes is two of 4.
-use Rattle.std.proofs.Common.{◌≡◌, ℕ, ◌+◌, ◌*◌, ◌^◌, ◌%◌, List, [], ◌∷◌, Bool, true, false, if◌then◌else◌, Option, Some, None, refl, ap, ◌∙◌, arith}
+use Rattle.std.proofs.Common.{◌≡◌, ℕ, ◌+◌, ◌*◌, ◌^◌, ◌%◌, List, [], ◌∷◌, Bool, true, false, nat_lt, ◌&&◌, if◌then◌else◌, Option, Some, None, refl, ap, ◌∙◌, arith}
 use Rattle.std.specs.FinMap as fin
 use Rattle.std.specs.Option.{option_and_then, option_map}
 use Rattle.om_base.specs.Numbers.{le}
-use Rattle.om_view.specs.Variable.{is_read, read_at}
+use Rattle.om_view.specs.Variable.{is_read, low_bytes, read_at}
 use Rattle.om_mem.specs.Contents.{Contents, addresses_from, bytes_at, loaded}
 
 -- a number with a higher one above it
@@ -61,3 +61,12 @@ is_read_at memory address size number told = by (is_read size) refl told
     by : (b : Bool) → is_read size ≡ b → (if b then loaded memory address size else None) ≡ Some number → is_read size ≡ true
     by true is told = is
     by false is told = absurd cc
+
+-- ... nor are low bytes of another
+pub is_low_bytes : (bits size number : ℕ) → low_bytes bits size ≡ Some number → is_read size ≡ true
+unfolding low_bytes
+is_low_bytes bits size number told = by (is_read size) (nat_lt size 8) refl told
+  where
+    by : (a b : Bool) → is_read size ≡ a → (if a && b then Some (bits % 2 ^ (8 * size)) else None) ≡ Some number → is_read size ≡ true
+    by true b is told = is
+    by false b is told = absurd cc

@@ -35,7 +35,7 @@ cell_of facts state step (id.Reg number) = Int (pos (register state number))
 cell_of facts state step id.Func = text_of (facts.func_at state.pc)
 cell_of facts state step id.File = text_of (facts.lines.file_at state.pc)
 cell_of facts state step id.Line = value_of (line_of (facts.lines.line_at state.pc))
-cell_of facts state step (id.Var place) = held_value state.memory (facts.variables.held place)
+cell_of facts state step (id.Var place) = held_value state (facts.cfa state.pc) (facts.variables.held place state.pc)
 
 -- the row of the state after so many steps
 abbrev pub row_of : Facts → State → ℕ → Row

@@ -1,4 +1,4 @@
-//! The number that a variable holds in memory.
+//! The number that a variable holds.
 
 ghost use Rattle.std.specs.Prelude.{◌≡◌, ◌-◌, ◌*◌, ◌^◌, true};
 ghost use Rattle.om_eval.specs.Meaning.{owned};
@@ -10,6 +10,7 @@ use om_eval::Value;
 use om_loc::Place;
 use om_mem::Memory;
 use om_names::{Held, Kind};
+use om_step::Machine;
 
 /// The little-endian number of 8 bytes from an address on; none where a byte of it isn't in a region.
 #[tactic(auto, using(crate::proofs::LongLemmas::loaded_halves))]
@@ -69,18 +70,118 @@ fn number_at(memory: &Memory, address: u32, kind: Kind) -> Option<i128>
     Some(with_sign(kind, number))
 }
 
-/// The number that a variable holds, if one is meant; none also where it has no address, or a byte of it isn't in a
-/// region.
-#[inline(never)] // so that a row of other columns doesn't pay for it
-#[tactic(auto, unfolding(crate::specs::Variable::held_number))]
-pub fn held_number(memory: &Memory, held: Option<Held>) -> Option<i128>
-    ensures { result ≡ spec.held_number memory.now.contents held }
+/// An address, so many bytes further, modulo 2^32.
+fn moved(address: u32, offset: &i64) -> u32
+    ensures { result ≡ spec.moved address offset.now }
 {
-    let held = held?;
-    let Place::Fixed(address) = held.place else {
+    let distance = (offset.unsigned_abs() % 0x1_0000_0000) as u32;
+    if *offset < 0 {
+        address.wrapping_sub(distance)
+    } else {
+        address.wrapping_add(distance)
+    }
+}
+
+/// The content of a register, if there is such a one.
+fn content(machine: &Machine, number: u8) -> Option<u32>
+    ensures { result ≡ spec.content machine.now.state number }
+{
+    if number >= 32 {
+        return None;
+    }
+    Some(machine.reg(number))
+}
+
+/// The address that a register and an offset give.
+fn based(machine: &Machine, number: u8, offset: &i64) -> Option<u32>
+    ensures { result ≡ spec.based machine.now.state number offset.now }
+{
+    match content(machine, number) {
+        Some(address) => Some(moved(address, offset)),
+        None => None,
+    }
+}
+
+/// The frame base that a place says, where this is the rule for the canonical frame address.
+fn base_of(machine: &Machine, rule: &Option<(u8, i64)>, place: &Place) -> Option<u32>
+    ensures { result ≡ spec.base_of machine.now.state rule.now place.now }
+{
+    match place {
+        Place::Cfa => match rule {
+            Some((number, offset)) => based(machine, *number, offset),
+            None => None,
+        },
+        Place::Reg(number) => content(machine, *number),
+        Place::RegPlus(number, offset) => based(machine, *number, offset),
+        _ => None,
+    }
+}
+
+/// The address of a variable, if it has one.
+#[tactic(auto, unfolding(crate::specs::Variable::address_in))]
+fn address_in(machine: &Machine, rule: &Option<(u8, i64)>, held: &Held) -> Option<u32>
+    ensures { result ≡ spec.address_in machine.now.state rule.now held.now }
+{
+    match &held.place {
+        Place::Fixed(address) => Some(*address),
+        Place::RegPlus(number, offset) => based(machine, *number, offset),
+        Place::Frame(offset) => match base_of(machine, rule, &held.base) {
+            Some(base) => Some(moved(base, offset)),
+            None => None,
+        },
+        _ => None,
+    }
+}
+
+/// So many low bytes of a register's content, if numbers of that size can be in one.
+#[tactic(auto, unfolding(crate::specs::Variable::low_bytes))]
+fn low_bytes(bits: u32, size: u8) -> Option<u32>
+    ensures { result ≡ spec.low_bytes bits size }
+{
+    match size {
+        1 => Some(bits % 0x100),
+        2 => Some(bits % 0x1_0000),
+        4 => Some(bits),
+        _ => None,
+    }
+}
+
+/// The number of a kind in a register's content.
+#[tactic(auto, unfolding(crate::specs::Variable::number_of_register), using(crate::proofs::LongLemmas::is_low_bytes))]
+fn number_of_register(bits: u32, kind: Kind) -> Option<i128>
+    ensures { result ≡ spec.number_of_register bits kind }
+{
+    let number = low_bytes(bits, kind.size)?;
+    Some(with_sign(kind, u64::from(number)))
+}
+
+/// The number that a variable holds, if it is in a register or has an address, and each byte is there.
+#[tactic(auto, unfolding(crate::specs::Variable::number_in))]
+fn number_in(machine: &Machine, rule: &Option<(u8, i64)>, held: &Held) -> Option<i128>
+    ensures { result ≡ spec.number_in machine.now.state rule.now held.now }
+{
+    if let Place::Reg(number) = held.place {
+        let Some(bits) = content(machine, number) else {
+            return None;
+        };
+        return number_of_register(bits, held.kind);
+    }
+    let Some(address) = address_in(machine, rule, held) else {
         return None;
     };
-    number_at(memory, address, held.kind)
+    number_at(machine.memory(), address, held.kind)
+}
+
+/// The number that a variable holds, if one is meant, where this is the rule for the canonical frame address.
+#[inline(never)] // so that a row of other columns doesn't pay for it
+#[tactic(auto, unfolding(crate::specs::Variable::held_number))]
+pub fn held_number(machine: &Machine, rule: &Option<(u8, i64)>, held: Option<Held>) -> Option<i128>
+    ensures { result ≡ spec.held_number machine.now.state rule.now held }
+{
+    match held {
+        Some(held) => number_in(machine, rule, &held),
+        None => None,
+    }
 }
 
 /// The value of a number, NULL where there is none.

@@ -58,9 +58,10 @@ fn line_of(row: Option<LineRow>) -> Option<u32>
 /// What the variable has that the name at a place of the catalog means.
 #[inline(always)] // with memory of its own, which other columns don't clear
 fn variable(machine: &Machine, debug: &Debug<'_>, place: u32) -> Value<'static>
-    ensures { owned result ≡ held_value machine.now.state.memory ((told_by debug.now).variables.held place) }
+    ensures { owned result ≡ held_value machine.now.state ((told_by debug.now).cfa machine.now.state.pc) ((told_by debug.now).variables.held place machine.now.state.pc) }
 {
-    number(held_number(machine.memory(), debug.variable(place)))
+    let rule = debug.cfa(machine.pc());
+    number(held_number(machine, &rule, debug.variable(place, machine.pc())))
 }
 
 impl RowView for View<'_> {

@@ -9,6 +9,9 @@ returns-in-Ranges g c = rw (c.in-Ranges.is, ← c.die_told-in-Ranges.ensures) c.
 pub returns-in-Lines : goal.returns-in-Lines
 returns-in-Lines g c = rw (c.in-Lines.is, ← c.line_told.ensures) c.put_told-in-Lines.ensures
 
+pub returns-in-Frame : goal.returns-in-Frame
+returns-in-Frame g c = rw (c.in-Frame.is, ← c.frame_told.ensures) c.put_told-in-Frame.ensures
+
 pub returns-in-NoMemory : goal.returns-in-NoMemory
 returns-in-NoMemory g c = rw c.in-NoMemory.is c.put_all.ensures
 
