@@ -52,8 +52,8 @@ fn sections_are_where_readelf_finds_them(rt: HostRuntime) -> Result<(), Fail> {
 #[test]
 fn the_small_specimen_has_a_truth(rt: HostRuntime) -> Result<(), Fail> {
     let small = small_specimen(rt.alloc())?;
-    let shown = printed(rt.alloc(), &small, 602)?;
-    assert_eq!(rt; shown.as_str(), "642 442 5 189 31");
+    let shown = printed(rt.alloc(), &small, 701)?;
+    assert_eq!(rt; shown.as_str(), "741 501 6 1b7 3e");
     let truth = [(0, 26), (1, 10), (2, 10), (3, 10)];
     assert_eq!(rt; small.truth.as_slice(), truth.as_slice());
     assert_eq!(rt; small.input.bytes().len(), 0);
@@ -120,5 +120,63 @@ fn each_word_of_the_small_specimen_has_its_line(rt: HostRuntime) -> Result<(), F
     let small = small_specimen(rt.alloc())?;
     let lines = lines_of_words(rt.alloc(), small.elf.bytes())?;
     assert_eq!(rt; lines.as_slice(), SMALL_LINES);
+    Ok(())
+}
+
+/// The rule for the frame at each word of the small specimen, which `readelf --debug-dump=frames-interp` prints of
+/// `down`, and of a word before it and behind it. Register 2 is sp, and 8 is s0.
+const SMALL_RULES: &[u8] = b"\
+    65552 -\n\
+    65556 2+0\n\
+    65560 2+32\n\
+    65564 2+32\n\
+    65568 2+32\n\
+    65572 8+0\n\
+    65576 8+0\n\
+    65580 8+0\n\
+    65584 8+0\n\
+    65588 8+0\n\
+    65592 8+0\n\
+    65596 8+0\n\
+    65600 8+0\n\
+    65604 8+0\n\
+    65608 2+32\n\
+    65612 2+0\n\
+    65616 -\n";
+
+/// Adds an address with the rule for the frame there, `-` where there is none.
+fn put_rule(text: &mut Vec<u8>, debug: &Debug<'_>, pc: u32) -> Result<(), AllocError> {
+    text.extend_from_slice(itoa::Buffer::new().format(pc).as_bytes())?;
+    text.push(b' ')?;
+    match debug.cfa(pc) {
+        Some((register, offset)) => {
+            text.extend_from_slice(itoa::Buffer::new().format(register).as_bytes())?;
+            text.push(b'+')?;
+            text.extend_from_slice(itoa::Buffer::new().format(offset).as_bytes())?;
+        }
+        None => text.push(b'-')?,
+    }
+    text.push(b'\n')?;
+    Ok(())
+}
+
+/// The rules of the words of `down` in the small specimen, of one before and of one behind them.
+fn rules_of_words(alloc: Global, file: &[u8]) -> Result<Vec<u8>, Fail> {
+    let elf = read_elf(alloc, file)?;
+    let debug = read_debug(alloc, &elf)?;
+    let mut text = Vec::new(alloc);
+    for pc in 65_552..65_617 {
+        if pc % 4 == 0 {
+            put_rule(&mut text, &debug, pc)?;
+        }
+    }
+    Ok(text)
+}
+
+#[test]
+fn each_word_of_the_small_specimen_has_its_rule(rt: HostRuntime) -> Result<(), Fail> {
+    let small = small_specimen(rt.alloc())?;
+    let rules = rules_of_words(rt.alloc(), small.elf.bytes())?;
+    assert_eq!(rt; rules.as_slice(), SMALL_RULES);
     Ok(())
 }

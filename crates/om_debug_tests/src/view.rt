@@ -14,7 +14,7 @@ use std::alloc::{AllocError, Global};
 use std::test::Fail;
 
 /// A page of stack, and no heap.
-const START: Start = Start {
+pub(crate) const START: Start = Start {
     stack_low: 0x7ff0_0000,
     stack_size: 4096,
     heap_low: 0x1_1000,
@@ -31,7 +31,7 @@ fn goes_on(machine: &mut Machine, meter: &mut StepMeter) -> bool {
 }
 
 /// How many steps are done of so many.
-fn steps_of(machine: &mut Machine, most: u64) -> u64 {
+pub(crate) fn steps_of(machine: &mut Machine, most: u64) -> u64 {
     let mut meter = StepMeter::new();
     for _ in 0..most {
         if !goes_on(machine, &mut meter) {
@@ -83,12 +83,12 @@ fn row_of(alloc: Global, file: &[u8], steps: u64) -> Result<String, Fail> {
 #[test]
 fn a_row_has_what_its_state_has(rt: HostRuntime) -> Result<(), Fail> {
     // `addi a0, x0, 3` and `jal ra, 16` lead to `down`, which begins with `addi sp, sp, -32` in line 6 of
-    // `specimen.c`.
+    // `specimen.c`, and where `n` is to be stored there is 0.
     let program = small_specimen(rt.alloc())?;
     let row = row_of(rt.alloc(), program.elf.bytes(), 2)?;
     let want = "Int(2) Int(65556) Int(4261478675) Int(3) \
         Text(Name { bytes: [100, 111, 119, 110] }) \
-        Text(Name { bytes: [115, 112, 101, 99, 105, 109, 101, 110, 46, 99] }) Int(6) Null Int(275) Null";
+        Text(Name { bytes: [115, 112, 101, 99, 105, 109, 101, 110, 46, 99] }) Int(6) Int(0) Int(275) Null";
     assert_eq!(rt; row.as_str(), want);
 
     // `addi a0, x0, 0` stands at 65536, and `addi a7, x0, 93` at 65556; `counter` is the one variable.

@@ -1,8 +1,8 @@
--- Debugging information as DWARF 4 spells it: section 7.5, and line tables: section 6.2.
--- Each number that the standard spells in LEB128 is below 128 here, and so is one byte (section 7.6).
+-- Debugging information as DWARF 4 spells it: section 7.5; line tables: section 6.2; and frames: section 6.4.
+-- Each number that the standard spells in LEB128 is one byte here (section 7.6): those without a sign are below 128.
 use Rattle.std.specs.Prelude.{ℕ, ◌+◌, ◌-◌, ◌*◌, List, [], ◌∷◌, ◌++◌, length}
 use Rattle.std.specs.List.{flat_map}
-use Rattle.om_image.specs.DwarfNumbers.{DW_AT_byte_size, DW_AT_encoding, DW_AT_frame_base, DW_AT_high_pc, DW_AT_location, DW_AT_low_pc, DW_AT_name, DW_AT_ranges, DW_AT_stmt_list, DW_AT_type, DW_CHILDREN_no, DW_CHILDREN_yes, DW_FORM_addr, DW_FORM_data1, DW_FORM_data4, DW_FORM_exprloc, DW_FORM_ref4, DW_FORM_sec_offset, DW_FORM_string, DW_LNE_end_sequence, DW_LNE_set_address, DW_LNS_advance_pc, DW_LNS_copy, DW_TAG_base_type, DW_TAG_compile_unit, DW_TAG_formal_parameter, DW_TAG_lexical_block, DW_TAG_subprogram, DW_TAG_variable}
+use Rattle.om_image.specs.DwarfNumbers.{DW_AT_byte_size, DW_AT_encoding, DW_AT_frame_base, DW_AT_high_pc, DW_AT_location, DW_AT_low_pc, DW_AT_name, DW_AT_ranges, DW_AT_stmt_list, DW_AT_type, DW_CFA_advance_loc, DW_CFA_def_cfa, DW_CFA_def_cfa_offset, DW_CHILDREN_no, DW_CHILDREN_yes, DW_FORM_addr, DW_FORM_data1, DW_FORM_data4, DW_FORM_exprloc, DW_FORM_ref4, DW_FORM_sec_offset, DW_FORM_string, DW_LNE_end_sequence, DW_LNE_set_address, DW_LNS_advance_pc, DW_LNS_copy, DW_TAG_base_type, DW_TAG_compile_unit, DW_TAG_formal_parameter, DW_TAG_lexical_block, DW_TAG_subprogram, DW_TAG_variable}
 use Rattle.om_image.specs.ElfFile.{half, word}
 
 -- ---- abbreviations: section 7.5.3
@@ -191,4 +191,39 @@ abbrev pub line_table : (file : List ℕ) → (program : List LineInstruction) �
 line_table file program =
     let head = line_head file in
     let behind = half 4 ++ word (length head) ++ head ++ flat_map line_instruction program in
+    word (length behind) ++ behind
+
+-- ---- frames: sections 6.4.1, 6.4.2 and 7.23
+
+pub data FrameInstruction : Type 0 where
+  -- goes so many bytes further
+  advance_loc : (delta : ℕ) → FrameInstruction
+  -- the canonical frame address is from here on so many bytes behind what a register holds
+  def_cfa : (register offset : ℕ) → FrameInstruction
+  -- ... behind what that register holds
+  def_cfa_offset : (offset : ℕ) → FrameInstruction
+
+-- how an instruction is spelled
+abbrev pub frame_instruction : FrameInstruction → List ℕ
+frame_instruction (advance_loc delta) = (DW_CFA_advance_loc + delta) ∷ []
+frame_instruction (def_cfa register offset) = DW_CFA_def_cfa ∷ register ∷ offset ∷ []
+frame_instruction (def_cfa_offset offset) = DW_CFA_def_cfa_offset ∷ offset ∷ []
+
+-- a common information entry with these initial instructions, behind its length
+abbrev pub common_information_entry : List FrameInstruction → List ℕ
+common_information_entry initial_instructions =
+    let behind =
+    word 0xFFFFFFFF  -- CIE_id
+    ++ 1  -- version
+    ∷ 0  -- augmentation: the empty text
+    ∷ 1  -- code_alignment_factor
+    ∷ 0x7C  -- data_alignment_factor: -4 in signed LEB128
+    ∷ 1  -- return_address_register
+    ∷ flat_map frame_instruction initial_instructions in
+    word (length behind) ++ behind
+
+-- the frame description entry, over so many bytes from an address on, of the common information entry at an offset of `.debug_frame`, behind its length
+abbrev pub frame_description_entry : (cie_at low_pc size : ℕ) → List FrameInstruction → List ℕ
+frame_description_entry cie_at low_pc size instructions =
+    let behind = word cie_at ++ word low_pc ++ word size ++ flat_map frame_instruction instructions in
     word (length behind) ++ behind

@@ -1,4 +1,4 @@
--- The numbers of DWARF 4 that the worked programs use: sections 7.5.3, 7.5.4, 7.7.1, 7.8 and 7.21.
+-- The numbers of DWARF 4 that the worked programs use: sections 7.5.3, 7.5.4, 7.7.1, 7.8, 7.21 and 7.23.
 use Rattle.std.specs.Prelude.{ℕ}
 
 -- ---- tags: figure 18
@@ -121,3 +121,14 @@ DW_LNE_end_sequence = 0x01
 
 abbrev pub DW_LNE_set_address : ℕ
 DW_LNE_set_address = 0x02
+
+-- ---- call frame instructions: figure 40; the delta of an advance_loc is added to its number
+
+abbrev pub DW_CFA_advance_loc : ℕ
+DW_CFA_advance_loc = 0x40
+
+abbrev pub DW_CFA_def_cfa : ℕ
+DW_CFA_def_cfa = 0x0C
+
+abbrev pub DW_CFA_def_cfa_offset : ℕ
+DW_CFA_def_cfa_offset = 0x0E

@@ -1,6 +1,7 @@
 -- The worked programs: their instructions, of the RISC-V unprivileged ISA, and their debugging information.
 use Rattle.std.specs.Prelude.{ℕ, List, [], ◌∷◌, ◌++◌, codes, replicate}
-use Rattle.om_image.specs.Dwarf.{abbreviations, base_type, compile_unit, end_of_children, formal_parameter, framed_subprogram, lexical_block, line_table, lined_abbreviations, lined_compile_unit, offset_behind, outer_subprogram, range_list, subprogram, unit, variable}
+use Rattle.om_image.specs.Dwarf.{abbreviations, base_type, common_information_entry, compile_unit, end_of_children, formal_parameter, frame_description_entry, framed_subprogram, lexical_block, line_table, lined_abbreviations, lined_compile_unit, offset_behind, outer_subprogram, range_list, subprogram, unit, variable}
+use Rattle.om_image.specs.Dwarf.FrameInstruction.{advance_loc, def_cfa, def_cfa_offset}
 use Rattle.om_image.specs.Dwarf.LineInstruction.{advance_pc, copy, end_sequence, set_address, special}
 use Rattle.om_image.specs.DwarfNumbers.{DW_ATE_signed, DW_OP_addr, DW_OP_call_frame_cfa, DW_OP_fbreg, DW_OP_reg10, DW_OP_reg17}
 use Rattle.om_image.specs.ElfFile.{SegmentView, SectionView, elf_file, program_bits, word}
@@ -124,6 +125,21 @@ small_lines = line_table (codes "specimen.c") (
     ∷ end_sequence
     ∷ []))
 
+-- the frames of `down`: the canonical frame address is the stack pointer (register 2) as it was when `down` was called. 32 are taken off it by the first instruction and added again by the last but one; in between the frame pointer (register 8) holds it, from the fourth instruction on until it is loaded again
+unfoldable pub small_frames : List ℕ
+small_frames =
+    common_information_entry (def_cfa 2 0 ∷ [])
+    ++ frame_description_entry 0 65_556 60
+    (advance_loc 4
+    ∷ def_cfa_offset 32
+    ∷ advance_loc 12
+    ∷ def_cfa 8 0
+    ∷ advance_loc 36
+    ∷ def_cfa 2 32
+    ∷ advance_loc 4
+    ∷ def_cfa_offset 0
+    ∷ [])
+
 -- ---- programs
 
 -- the segment of some code
@@ -158,4 +174,4 @@ small_truth = (0, 26) ∷ (1, 10) ∷ (2, 10) ∷ (3, 10) ∷ []
 abbrev pub small_program : Program
 small_program =
     program_of (code_at 65_536 (small_main_code ++ down_code) ∷ [])
-    (debug_sections lined_abbreviations small_info ++ program_bits (codes ".debug_line") small_lines ∷ []) [] small_truth
+    (debug_sections lined_abbreviations small_info ++ program_bits (codes ".debug_line") small_lines ∷ program_bits (codes ".debug_frame") small_frames ∷ []) [] small_truth

@@ -1,4 +1,4 @@
-//! The debugging information of the worked programs, as bytes: DWARF 4, sections 7.5 and 6.2.
+//! The debugging information of the worked programs, as bytes: DWARF 4, sections 7.5, 6.2 and 6.4.
 
 ghost use Rattle.std.specs.Prelude.{◌≡◌, ◌+◌, ◌<◌, codes, length};
 ghost use Rattle.om_image.specs.Dwarf as dwarf;
@@ -82,6 +82,19 @@ const SMALL_LINES: [u8; 76] = [
     0, 1, 1, // DW_LNE_end_sequence
 ];
 
+/// `.debug_frame` of S: where the canonical frame address of `down` is. Register 2 is sp, and 8 is s0.
+const SMALL_FRAMES: [u8; 46] = [
+    12, 0, 0, 0, 255, 255, 255, 255, // 12 bytes follow the length: a common information entry
+    1, 0, 1, 0x7c, 1, // of version 1; code_alignment_factor 1, data_alignment_factor -4; register 1
+    0x0c, 2, 0, // DW_CFA_def_cfa sp 0
+    26, 0, 0, 0, 0, 0, 0, 0, // 26 bytes follow the length: a description, of the entry at 0
+    20, 0, 1, 0, 60, 0, 0, 0, // `down`, from 65556 on, 60 bytes long
+    0x44, 0x0e, 32, // 4 bytes further DW_CFA_def_cfa_offset 32
+    0x4c, 0x0c, 8, 0, // 12 bytes further DW_CFA_def_cfa s0 0
+    0x64, 0x0c, 2, 32, // 36 bytes further DW_CFA_def_cfa sp 32
+    0x44, 0x0e, 0, // 4 bytes further DW_CFA_def_cfa_offset 0
+];
+
 /// The abbreviations of the programs without lines.
 #[tactic(auto, unfolding(crate::specs::Dwarf::abbreviations))]
 pub(crate) fn abbreviations() -> Section<'static>
@@ -143,4 +156,13 @@ pub(crate) fn small_lines() -> Section<'static>
     ensures small { length result.name + length result.bytes < 100 }
 {
     Section::program_bits(b".debug_line", &SMALL_LINES)
+}
+
+/// The frames of S.
+#[tactic(auto, unfolding(crate::specs::Programs::small_frames, crate::specs::ElfFile::half, crate::specs::ElfFile::word))]
+pub(crate) fn small_frames() -> Section<'static>
+    ensures bytes { result ≡ program_bits (codes ".debug_frame") spec.small_frames }
+    ensures small { length result.name + length result.bytes < 100 }
+{
+    Section::program_bits(b".debug_frame", &SMALL_FRAMES)
 }

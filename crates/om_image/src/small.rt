@@ -3,7 +3,7 @@
 ghost use Rattle.std.specs.Prelude.{◌≡◌, ◌++◌, IfOk};
 ghost use Rattle.om_image.specs.Programs.{down_code, small_program};
 
-use crate::debug::{lined_abbreviations, small_info, small_lines};
+use crate::debug::{lined_abbreviations, small_frames, small_info, small_lines};
 use crate::program::{ENTRY, Program, make_program};
 use crate::segment::Segment;
 use om_base::NoMemory;
@@ -47,7 +47,12 @@ pub fn small_specimen(alloc: Global) -> Result<Program, NoMemory>
     ensures { IfOk result (λ program. program ≡ small_program) }
 {
     let code = with_down(alloc, &MAIN)?;
-    let sections = [lined_abbreviations(), small_info(), small_lines()];
+    let sections = [
+        lined_abbreviations(),
+        small_info(),
+        small_lines(),
+        small_frames(),
+    ];
     make_program(
         alloc,
         &[Segment::code(ENTRY, &code)],

@@ -1,0 +1,1 @@
+SELECT step, "down.n" FROM states WHERE pc = 65576
