@@ -5,13 +5,14 @@ ghost use Rattle.om_eval.specs.Meaning.{owned};
 ghost use Rattle.om_names.specs.Known.{told_by};
 ghost use Rattle.om_view.specs.Row as spec;
 ghost use Rattle.om_view.specs.Row.{row_of};
-ghost use Rattle.om_view.specs.Variable.{held_value};
+ghost use Rattle.om_view.specs.Variable.{held_value, number_in};
 
 use crate::variable::{held_number, number};
 use om_base::Name;
 use om_eval::{ColumnId, RowView, Value};
 use om_line::LineRow;
-use om_names::Debug;
+use om_loc::Place;
+use om_names::{Debug, Held};
 use om_step::Machine;
 
 /// The row of a state, of which nothing is computed before it is asked for.
@@ -55,13 +56,28 @@ fn line_of(row: Option<LineRow>) -> Option<u32>
     }
 }
 
+/// The rule for the canonical frame address at the pc, where a variable's number depends on it.
+#[tactic(auto, unfolding(crate::specs::Variable::number_in, crate::specs::Variable::address_in))]
+fn rule_for(machine: &Machine, debug: &Debug<'_>, held: &Held) -> Option<(u8, i64)>
+    ensures { number_in machine.now.state result held.now ≡ number_in machine.now.state ((told_by debug.now).cfa machine.now.state.pc) held.now }
+{
+    match (&held.place, &held.base) {
+        (Place::Frame(_), Place::Cfa) => debug.cfa(machine.pc()),
+        _ => None,
+    }
+}
+
 /// What the variable has that the name at a place of the catalog means.
 #[inline(always)] // with memory of its own, which other columns don't clear
+#[tactic(auto, unfolding(crate::specs::Variable::held_number))]
 fn variable(machine: &Machine, debug: &Debug<'_>, place: u32) -> Value<'static>
     ensures { owned result ≡ held_value machine.now.state ((told_by debug.now).cfa machine.now.state.pc) ((told_by debug.now).variables.held place machine.now.state.pc) }
 {
-    let rule = debug.cfa(machine.pc());
-    number(held_number(machine, &rule, debug.variable(place, machine.pc())))
+    let Some(held) = debug.variable(place, machine.pc()) else {
+        return Value::Null;
+    };
+    let rule = rule_for(machine, debug, &held);
+    number(held_number(machine, &rule, Some(held)))
 }
 
 impl RowView for View<'_> {
