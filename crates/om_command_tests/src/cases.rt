@@ -27,6 +27,10 @@ static COUNTS: &[u8] = b"step  counter\n   5        7\n   6        7\n   7      
 static INFO: &[u8] = b"entry 65536\nsegments 2\nunits 1\nskipped 0\nfunctions 0\nvariables 1\n\
     variable counter -2147483648 2147483647\n";
 
+/// What is told of S.
+static SMALL: &[u8] = b"entry 65536\nsegments 1\nunits 1\nskipped 0\nfunctions 2\nvariables 1\n\
+    variable down.n -2147483648 2147483647\n";
+
 /// The recording of P.
 static RECORD: &[&str] = &["record", "P", "EMPTY", "NEW"];
 
@@ -109,6 +113,45 @@ fn answers_and_refuses(rt: HostRuntime) -> Result<(), Fail> {
             b"omni: executable: short\n",
         ),
         refused(&["record", "P", "none", "NEW"], 8, b"omni: read: none\n"),
+    ];
+    for case in &cases {
+        assert!(rt; comes_true(rt.alloc(), case)?, "{:?}", case.words);
+    }
+    Ok(())
+}
+
+#[test]
+fn answers_with_local_variables(rt: HostRuntime) -> Result<(), Fail> {
+    let cases = [
+        // The parameter of each activation, where it was stored.
+        plain(
+            &[
+                "query",
+                "S",
+                "CALLS",
+                "SELECT step, \"down.n\" FROM states WHERE pc = 65576",
+            ],
+            leaves(
+                0,
+                b"step  down.n\n   7       3\n  18       2\n  29       1\n  40       0\nrows 4\n",
+                b"",
+            ),
+        ),
+        // The inner one of two of a name.
+        plain(
+            &[
+                "query",
+                "B",
+                "LOG",
+                "SELECT step, \"f.i\" FROM states WHERE step >= 1 AND step <= 3",
+            ],
+            leaves(
+                0,
+                b"step  f.i\n   1    3\n   2    0\n   3    2\nrows 3\n",
+                b"",
+            ),
+        ),
+        plain(&["info", "S"], leaves(0, SMALL, b"")),
     ];
     for case in &cases {
         assert!(rt; comes_true(rt.alloc(), case)?, "{:?}", case.words);

@@ -2,7 +2,7 @@
 
 use om_base::{Bytes, NoMemory};
 use om_command::omni;
-use om_image::{Which, worked};
+use om_image::{Which, small_specimen, worked};
 use om_io::{Calls, Files, MemShelf, MemSink};
 use std::alloc::Global;
 use std::test::Fail;
@@ -41,8 +41,17 @@ static READS: &[u8; 136] = b"OTL1\x00\x00\xf0\x7f\x00\x00\x10\x00\x00\x10\x02\x0
     \x00\x00\x00\x00\x00\x00\x00\x00\
     \x03\x07\x00\x00\x00\x00\x00\x00\x00\x00\x04\x00\x00\x00";
 
+/// The log of S: two regions of 1 MiB, the call of step 59 that exits, and the end at step 60 by that exit. The bytes
+/// were put together as those of `LOG`.
+static CALLS: &[u8; 79] = b"OTL1\x00\x00\xf0\x7f\x00\x00\x10\x00\x00\x10\x01\x00\x00\x00\x10\x00\
+    \x01\x3b\x00\x00\x00\x00\x00\x00\x00\x5d\x00\x00\x00\
+    \x00\x00\x00\x00\x00\x00\x00\x00\x00\x00\x00\x00\x00\x00\x00\x00\x00\x00\x00\x00\x00\x00\x00\x00\
+    \x00\x00\x00\x00\x00\x00\x00\x00\
+    \x03\x3c\x00\x00\x00\x00\x00\x00\x00\x00\x00\x00\x00\x00";
+
 /// A use of the top call over the files `P` (the program P), `LOG`, `OTHER` and `LONG` (logs of it), `G` (the
-/// program G), `READS` (its log), `EMPTY` (no bytes), `WORD` (the text `omni`) and `NEW` (the text `before`).
+/// program G), `READS` (its log), `B` (the program B, whose log is `LOG`), `S` (the small specimen), `CALLS` (its
+/// log), `EMPTY` (no bytes), `WORD` (the text `omni`) and `NEW` (the text `before`).
 #[derive(Clone, Copy)]
 pub struct Case {
     /// The words after the program's own name.
@@ -92,6 +101,8 @@ fn words(alloc: Global, texts: &[&str]) -> Result<Vec<String>, Fail> {
 fn files(alloc: Global) -> Result<Files, Fail> {
     let program: Bytes = worked(alloc, Which::P)?.elf;
     let reader: Bytes = worked(alloc, Which::G)?.elf;
+    let blocks: Bytes = worked(alloc, Which::B)?.elf;
+    let small: Bytes = small_specimen(alloc)?.elf;
     let mut files = Files::new(alloc);
     files.add("P", program.bytes())?;
     files.add("LOG", LOG)?;
@@ -99,6 +110,9 @@ fn files(alloc: Global) -> Result<Files, Fail> {
     files.add("LONG", LONG)?;
     files.add("G", reader.bytes())?;
     files.add("READS", READS)?;
+    files.add("B", blocks.bytes())?;
+    files.add("S", small.bytes())?;
+    files.add("CALLS", CALLS)?;
     files.add("EMPTY", b"")?;
     files.add("WORD", b"omni")?;
     files.add("NEW", b"before")?;

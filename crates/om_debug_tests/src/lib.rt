@@ -20,6 +20,10 @@ mod line_tables;
 #[cfg(test)]
 mod lines;
 #[cfg(test)]
+mod local_cells;
+#[cfg(test)]
+mod locals;
+#[cfg(test)]
 mod made;
 #[cfg(test)]
 mod names;

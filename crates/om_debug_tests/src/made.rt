@@ -1,6 +1,6 @@
 //! Executables made by hand: units of debugging information, and a segment of 36 bytes.
 
-ghost use Rattle.std.specs.Prelude.{◌≡◌, length, All, IfOk};
+ghost use Rattle.std.specs.Prelude.{◌≡◌, ◌<◌, ◌^◌, length, true, All, IfOk};
 ghost use Rattle.om_elf.specs.Image.{AreLoadable};
 ghost use Rattle.om_elf.specs.Piece.{IsShort};
 
@@ -19,6 +19,11 @@ use std::alloc::{AllocError, Global};
 /// Variables: `v` has a name, a type and a location; `d` besides whether it is a mere declaration; `u` has no
 /// name, `y` no type, and `n` no location; `l` has a list of locations; `a` is told by an abstract origin
 /// and `g` by a specification, and has a location. `q` is a formal parameter with a type.
+///
+/// With code of their own: `F` is a subprogram with a name, a lowest address, a size in a byte and a frame
+/// base, and `G` one with a name, a list of ranges and a frame base; `U` is a subprogram, `B` a lexical block and
+/// `I` an inlined subroutine, each with a lowest address and a size; `R` is a lexical block with a list of ranges.
+/// `P` is a formal parameter with a name, a type and a location.
 const ABBREVIATIONS: &[u8] = b"\
     f\x2e\x01\0\0\
     k\x0b\x01\0\0\
@@ -42,6 +47,13 @@ const ABBREVIATIONS: &[u8] = b"\
     a\x34\0\x31\x10\x02\x18\0\0\
     g\x34\0\x47\x10\x02\x18\0\0\
     q\x05\0\x49\x11\0\0\
+    F\x2e\x01\x03\x08\x11\x01\x12\x0b\x40\x18\0\0\
+    G\x2e\x01\x03\x08\x55\x17\x40\x18\0\0\
+    U\x2e\x01\x11\x01\x12\x0b\0\0\
+    B\x0b\x01\x11\x01\x12\x0b\0\0\
+    I\x1d\x01\x11\x01\x12\x0b\0\0\
+    R\x0b\x01\x55\x17\0\0\
+    P\x05\0\x03\x08\x49\x11\x02\x18\0\0\
     \0";
 
 /// Where the segment begins.
@@ -54,6 +66,19 @@ const SEGMENT: &[u8] = b"\
     \0\0\0\0\0\0\0\x80\
     \xff\xff\xff\xff\xff\xff\xff\x7f\
     \x01\x02\x03\x04\x05\x06\x07\x88";
+
+/// The types of a unit. At 11 and 14 those of a byte, with a sign and without, at 17 and 20 those of 2 bytes, at
+/// 23 and 26 of 4, at 29 and 32 of 8; at 35 a floating-point type. The entries behind them begin at 38.
+pub(crate) const TYPES: &[u8] = b"\
+    b\x01\x06\
+    b\x01\x08\
+    b\x02\x05\
+    b\x02\x07\
+    b\x04\x05\
+    b\x04\x07\
+    b\x08\x05\
+    b\x08\x07\
+    b\x04\x04";
 
 /// Appends a unit of version 4 of some types and the entries behind them: fewer than 40 bytes, and fewer than
 /// 200.
@@ -75,12 +100,44 @@ pub(crate) fn section<'a>(name: &'a [u8], bytes: &'a [u8]) -> Section<'a>
     }
 }
 
+/// Sections beside that of the units.
+#[derive(Clone, Copy, Debug)]
+pub(crate) struct Beside<'a> {
+    /// `.debug_ranges`
+    pub ranges: &'a [u8],
+    /// `.debug_frame`
+    pub frames: &'a [u8],
+}
+
+/// Whether a section of these bytes isn't too long.
+fn is_short(bytes: &[u8]) -> bool
+    ensures { result ≡ true → length bytes.now < 2 ^ 32 }
+{
+    bytes.len() as u64 <= MOST_BYTES
+}
+
 /// An executable with these units, unless they are too long.
 pub(crate) fn elf_of<'a>(alloc: Global, info: &'a [u8]) -> Result<Elf<'a>, NoMemory>
     ensures loadable { IfOk result (λ elf. AreLoadable elf.segments) }
     ensures short { IfOk result (λ elf. All IsShort elf.sections) }
 {
-    if info.len() as u64 > MOST_BYTES {
+    let beside = Beside {
+        ranges: b"",
+        frames: b"",
+    };
+    elf_with(alloc, info, beside)
+}
+
+/// An executable with these units and the sections beside them, unless one is too long.
+pub(crate) fn elf_with<'a>(
+    alloc: Global,
+    info: &'a [u8],
+    beside: Beside<'a>,
+) -> Result<Elf<'a>, NoMemory>
+    ensures loadable { IfOk result (λ elf. AreLoadable elf.segments) }
+    ensures short { IfOk result (λ elf. All IsShort elf.sections) }
+{
+    if !is_short(info) || !is_short(beside.ranges) || !is_short(beside.frames) {
         return Err(NoMemory);
     }
     let segments = vec![in alloc;
@@ -94,6 +151,8 @@ pub(crate) fn elf_of<'a>(alloc: Global, info: &'a [u8]) -> Result<Elf<'a>, NoMem
     let sections = vec![in alloc;
         section(b".debug_info", info),
         section(b".debug_abbrev", ABBREVIATIONS),
+        section(b".debug_ranges", beside.ranges),
+        section(b".debug_frame", beside.frames),
     ]?;
     Ok(Elf {
         entry: SEGMENT_AT,

@@ -1,25 +1,11 @@
 //! Variables of executables made by hand: which of them count, what is known of each name, and types that
 //! lead back to themselves.
 
-use crate::made::{elf_of, put_unit};
+use crate::made::{TYPES, elf_of, put_unit};
 use om_eval::{VarInfo, VariableName};
 use om_names::{Debug, NamesFault, read_debug};
 use std::alloc::{AllocError, Global};
 use std::test::Fail;
-
-/// The types of each unit. At 11 and 14 those of a byte, with a sign and without, at 17 and 20 those of 2
-/// bytes, at 23 and 26 of 4, at 29 and 32 of 8; at 35 a floating-point type. The entries behind them begin at
-/// 38.
-const TYPES: &[u8] = b"\
-    b\x01\x06\
-    b\x01\x08\
-    b\x02\x05\
-    b\x02\x07\
-    b\x04\x05\
-    b\x04\x07\
-    b\x08\x05\
-    b\x08\x07\
-    b\x04\x04";
 
 /// A unit with these entries, and one behind it.
 fn units(alloc: Global, first: &[u8], second: &[u8]) -> Result<Vec<u8>, AllocError> {
