@@ -1,0 +1,1 @@
+SELECT step, func, line, "fill.i", "limit" FROM states WHERE "limit" <> 100 AND "fill.i" < 0

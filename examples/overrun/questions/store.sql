@@ -1,0 +1,1 @@
+SELECT step, line, "fill.i", "limit" FROM states WHERE pc = 0x1115c
