@@ -10,28 +10,29 @@ use crate::tree::Identifier;
 use om_base::{NoMemory, Text};
 use std::alloc::Global;
 
-/// The first byte that is said between double quotes, and what stands after it.
+/// The first byte that is said between quotes, and what stands after it.
 #[tactic(auto, unfolding(crate::specs::Identifiers::unquoted))]
-fn first_said(inside: &[u8]) -> Option<(u8, &[u8])>
-    ensures none { result ≡ None → unquoted inside.now ≡ [] }
-    ensures some { IfSome result (λ x. unquoted inside.now ≡ x.0 ∷ unquoted x.1.now) }
+fn first_said(quote: u8, inside: &[u8]) -> Option<(u8, &[u8])>
+    ensures none { result ≡ None → unquoted quote inside.now ≡ [] }
+    ensures some { IfSome result (λ x. unquoted quote inside.now ≡ x.0 ∷ unquoted quote x.1.now) }
     ensures shorter { IfSome result (λ x. length x.1.now < length inside.now) }
 {
     match inside {
-        [b'"', b'"', rest @ ..] => Some((b'"', rest)),
+        [first, second, rest @ ..] if *first == quote && *second == quote => Some((quote, rest)),
         [byte, rest @ ..] => Some((*byte, rest)),
         [] => None,
     }
 }
 
-/// What is said between double quotes.
-fn unquoted(alloc: Global, mut inside: &[u8]) -> Result<Text, NoMemory>
-    ensures { IfOk result (λ text. text ≡ unquoted inside.entry.now) }
+/// What is said between quotes.
+fn unquoted(alloc: Global, quote: u8, inside: &[u8]) -> Result<Text, NoMemory>
+    ensures { IfOk result (λ text. text ≡ unquoted quote inside.now) }
 {
     let mut text = Text::copy_of(alloc, b"")?;
-    while let Some((byte, rest)) = first_said(inside) {
+    let mut rest = inside;
+    while let Some((byte, others)) = first_said(quote, rest) {
         text.add(&[byte])?;
-        inside = rest;
+        rest = others;
     }
     Ok(text)
 }
@@ -45,10 +46,10 @@ fn behind<'a>(whole: &'a [u8], bytes: &[u8]) -> Option<&'a [u8]>
 
 /// What stands between double quotes behind what says these bytes, if it begins by saying them.
 fn behind_said<'a>(mut inside: &'a [u8], mut bytes: &[u8]) -> Option<&'a [u8]>
-    ensures { (more : List ℕ) → bytes_eq (unquoted inside.entry.now) (bytes.entry.now ++ more) ≡ option_map_or (λ rest. bytes_eq (unquoted rest.now) more) result false }
+    ensures { (more : List ℕ) → bytes_eq (unquoted 34 inside.entry.now) (bytes.entry.now ++ more) ≡ option_map_or (λ rest. bytes_eq (unquoted 34 rest.now) more) result false }
 {
     while let [first, others @ ..] = bytes {
-        let (byte, rest) = first_said(inside)?;
+        let (byte, rest) = first_said(b'"', inside)?;
         if byte != *first {
             return None;
         }
@@ -73,17 +74,17 @@ fn is_joined(whole: &[u8], first: &[u8], second: &[u8], third: &[u8]) -> bool
 
 /// Whether these bytes are what is said between double quotes.
 fn is_unquoted(inside: &[u8], bytes: &[u8]) -> bool
-    ensures { result ≡ bytes_eq (unquoted inside.now) bytes.now }
+    ensures { result ≡ bytes_eq (unquoted 34 inside.now) bytes.now }
 {
     match behind_said(inside, bytes) {
-        Some(rest) => first_said(rest).is_none(),
+        Some(rest) => first_said(b'"', rest).is_none(),
         None => false,
     }
 }
 
 /// Whether these three pieces, one behind another, are what is said between double quotes.
 fn is_unquoted_joined(inside: &[u8], first: &[u8], second: &[u8], third: &[u8]) -> bool
-    ensures { result ≡ bytes_eq (unquoted inside.now) (first.now ++ (second.now ++ third.now)) }
+    ensures { result ≡ bytes_eq (unquoted 34 inside.now) (first.now ++ (second.now ++ third.now)) }
 {
     let Some(rest) = behind_said(inside, first) else {
         return false;
@@ -101,7 +102,7 @@ impl<'a> Identifier<'a> {
     {
         match self {
             Identifier::Regular(name) => Text::copy_of(alloc, name.bytes()),
-            Identifier::Delimited(name) => unquoted(alloc, name.bytes()),
+            Identifier::Delimited(name) => unquoted(alloc, b'"', name.bytes()),
         }
     }
 

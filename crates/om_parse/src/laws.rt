@@ -9,11 +9,11 @@ ghost use Rattle.om_parse.specs.Tokens.{AreTokens, IsQuoted};
 ghost use Rattle.om_parse.specs.Grammar.{IsQuery};
 ghost use Rattle.om_parse.specs.Refusals.{HasTree, IsRefused, IsRefusal};
 
-/// Bytes are said by one delimited identifier, in which each double quote of theirs stands twice.
+/// Bytes have one spelling between quotes, in which each quote of theirs stands twice.
 pub fn one_spelling()
-    ensures says { (bytes : List ℕ) → unquoted (quoted bytes) ≡ bytes }
-    ensures alone { (inside : List ℕ) → IsQuoted 34 inside → inside ≡ quoted (unquoted inside) }
-    ensures allowed { (bytes : List ℕ) → IsQuoted 34 (quoted bytes) }
+    ensures says { (quote : ℕ) (bytes : List ℕ) → unquoted quote (quoted quote bytes) ≡ bytes }
+    ensures alone { (quote : ℕ) (inside : List ℕ) → IsQuoted quote inside → inside ≡ quoted quote (unquoted quote inside) }
+    ensures allowed { (quote : ℕ) (bytes : List ℕ) → IsQuoted quote (quoted quote bytes) }
 {}
 
 /// A text has one list of tokens at most.

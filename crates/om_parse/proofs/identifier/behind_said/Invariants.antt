@@ -4,7 +4,7 @@ use Rattle.om_parse.specs.Identifiers.{unquoted}
 use Rattle.om_parse.proofs.identifier.behind_said.Given as goal
 
 abbrev pub invariant-loop-bytes : goal.invariant-loop-bytes
-invariant-loop-bytes l = (more : List ℕ) → bytes_eq (unquoted l.inside) (l.bytes ++ more) ≡ bytes_eq (unquoted l.initial.inside) (l.initial.bytes ++ more)
+invariant-loop-bytes l = (more : List ℕ) → bytes_eq (unquoted 34 l.inside) (l.bytes ++ more) ≡ bytes_eq (unquoted 34 l.initial.inside) (l.initial.bytes ++ more)
 
 abbrev pub decreases-loop-bytes : goal.decreases-loop-bytes
 decreases-loop-bytes l = length l.bytes

@@ -3,7 +3,7 @@ use Rattle.om_parse.specs.Identifiers.{unquoted}
 use Rattle.om_parse.proofs.identifier.unquoted.Given as goal
 
 abbrev pub invariant-loop-byte : goal.invariant-loop-byte
-invariant-loop-byte l = l.text ++ unquoted l.inside ≡ unquoted l.initial.inside
+invariant-loop-byte l = l.text ++ unquoted l.quote l.rest ≡ unquoted l.quote l.inside
 
 abbrev pub decreases-loop-byte : goal.decreases-loop-byte
-decreases-loop-byte l = length l.inside
+decreases-loop-byte l = length l.rest
