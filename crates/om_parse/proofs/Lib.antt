@@ -1,8 +1,3 @@
-pub mod NumberLemmas
-pub mod PieceLemmas
-pub mod PieceLaws
-pub mod TokenLaws
-pub mod IdentifierLemmas
 pub mod ListLemmas
 pub mod Runs
 pub mod Productions

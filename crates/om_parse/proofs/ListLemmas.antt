@@ -1,10 +1,10 @@
 -- Lists whose members stand behind separators, one member after the other.
 use Rattle.std.proofs.Common.{◌≡◌, ℕ, zero, suc, ◌<◌, ◌≤◌, true, false, cond, List, [], ◌∷◌, ◌++◌, length, Option, Some, None, Result, Ok, Err, refl, sym, ap, ◌∙◌, append_assoc, arith}
-use Rattle.om_parse.specs.declared.token.Token.{Token}
-use Rattle.om_parse.specs.declared.terminal.Terminal.{Terminal}
+use Rattle.om_token.specs.declared.token.Token.{Token}
+use Rattle.om_token.specs.declared.terminal.Terminal.{Terminal}
 use Rattle.om_parse.specs.declared.cursor.Stop.{Stop}
 use Rattle.om_parse.specs.declared.cursor.Stop.TheVariants as stop
-use Rattle.om_parse.specs.declared.terminal.Terminal.TheVariants as t
+use Rattle.om_token.specs.declared.terminal.Terminal.TheVariants as t
 use Rattle.om_parse.specs.declared.tree.CondTree.{CondTree}
 use Rattle.om_parse.specs.Reading as reading
 use Rattle.om_parse.specs.Grammar.{Tokens, all_of}

@@ -2,22 +2,21 @@
 use Rattle.std.proofs.Common.{◌≡◌, ℕ, ◌≤◌, List, [], ◌∷◌, ◌++◌, length, Result, Ok, Err, refl, sym, ap, subst, ◌∙◌, append_assoc, arith, ◌⊎◌, inl, inr}
 use Rattle.std.specs.Prelude.{IfOk, IfErr, ◌≢◌}
 use Rattle.std.proofs.lemmas.List.{append-nil}
-use Rattle.om_parse.specs.declared.token.Token.{Token}
+use Rattle.om_token.specs.declared.token.Token.{Token}
 use Rattle.om_parse.specs.declared.tree.Query.{Query}
 use Rattle.om_parse.specs.declared.cursor.Stop.{Stop}
 use Rattle.om_parse.specs.declared.cursor.Stop.TheVariants as stop
 use Rattle.om_parse.specs.declared.fault.ParseFault.{ParseFault}
 use Rattle.om_parse.specs.declared.fault.ParseFault.TheVariants as f
-use Rattle.om_parse.specs.Tokens.{AreTokens}
+use Rattle.om_token.specs.Tokens.{AreTokens}
 use Rattle.om_parse.specs.Grammar.{Tokens, Lang, IsQuery}
 use Rattle.om_parse.specs.Refusals.{Begins, Stops, IsRefused, place_of, IsMisplaced, HasTree, IsRefusal, wide, bytes, token, Answers}
-use Rattle.om_parse.specs.Cutting.{IsUncut}
 use Rattle.om_parse.specs.Reading as r
 use Rattle.om_parse.specs.Reading.{IsTokenFault, Step, Parser, go_on, and_then, ◌>>=◌, pure}
 use Rattle.om_parse.proofs.Runs.{Run, Again}
 use Rattle.om_parse.proofs.Productions.{whole_runs}
 use Rattle.om_parse.proofs.Takes.{whole_takes}
-use Rattle.om_parse.proofs.TokenLaws.{one_token_list, one_bad_place, not_both_cut}
+use Rattle.om_token.proofs.TokenLaws.{one_token_list, one_bad_place, not_both_cut}
 
 -- ---- what the parser gives
 
@@ -158,11 +157,6 @@ refuses text (Ok x) h g fault t = absurd (never_both text x fault h t)
 refuses text (Err f.NoMemory) h g fault t = inr refl
 refuses text (Err (f.Syntax at)) h g fault t = inl (ap Err (one_refusal text (f.Syntax at) fault (g (λ e. cc)) t))
 refuses text (Err (f.TooWide n)) h g fault t = inl (ap Err (one_refusal text (f.TooWide n) fault (g (λ e. cc)) t))
-
-pub uncut_is_refused : (text : List ℕ) (fault : ParseFault) → length text ≤ 16384 → IsUncut text fault → fault ≢ f.NoMemory → IsRefusal text fault
-uncut_is_refused text f.NoMemory short h n = absurd (n refl)
-uncut_is_refused text (f.Syntax at) short h n = bytes short h
-uncut_is_refused text (f.TooWide k) short h n = absurd h
 
 pub token_is_refused : (text : List ℕ) (tokens : Tokens) (result : Result Query ParseFault) → length text ≤ 16384 → AreTokens text tokens → IfErr result (λ fault. IsTokenFault tokens (length text) fault)
     → IfErr result (λ fault. fault ≢ f.NoMemory → IsRefusal text fault)

@@ -2,12 +2,12 @@
 use Rattle.std.proofs.Common.{◌≡◌, ℕ, zero, suc, ◌≤◌, Bool, true, false, cond, List, [], ◌∷◌, ◌++◌, length, Option, Some, None, Ok, refl, sym, ap, subst, arith, rules}
 use Rattle.std.proofs.lemmas.List.{append-nil}
 use denote.Enum.Bare.{same_true}
-use Rattle.om_parse.specs.contracts.terminal.Terminal.{the_type}
-use Rattle.om_parse.specs.declared.token.Kind.{Kind}
-use Rattle.om_parse.specs.declared.token.Kind.TheVariants as k
-use Rattle.om_parse.specs.declared.token.Token.{Token}
-use Rattle.om_parse.specs.declared.terminal.Terminal.{Terminal}
-use Rattle.om_parse.specs.declared.terminal.Terminal.TheVariants as t
+use Rattle.om_token.specs.contracts.terminal.Terminal.{the_type}
+use Rattle.om_token.specs.declared.token.Kind.{Kind}
+use Rattle.om_token.specs.declared.token.Kind.TheVariants as k
+use Rattle.om_token.specs.declared.token.Token.{Token}
+use Rattle.om_token.specs.declared.terminal.Terminal.{Terminal}
+use Rattle.om_token.specs.declared.terminal.Terminal.TheVariants as t
 use Rattle.om_parse.specs.declared.tree.Query.{Query}
 use Rattle.om_parse.specs.declared.tree.Item.{Item}
 use Rattle.om_parse.specs.declared.tree.TableName.{TableName}
@@ -19,7 +19,7 @@ use Rattle.om_parse.specs.declared.tree.CondTree.{CondTree}
 use Rattle.om_parse.specs.declared.tree.CondTree.TheVariants as c
 use Rattle.om_parse.specs.declared.tree.CompareOp.{CompareOp}
 use Rattle.om_parse.specs.declared.tree.CompareOp.TheVariants as o
-use Rattle.om_parse.specs.Terminals.{same}
+use Rattle.om_token.specs.Terminals.{same}
 use Rattle.om_parse.specs.Grammar.{Tokens, Lang, token, terminal, all_of, IsColumn, IsNumeral, IsItem, AreMoreItems, AreItems, IsTable, IsOperator, IsTest, AreMoreTests, IsCond, IsFilter, IsQuery}
 use Rattle.om_parse.specs.Reading as r
 use Rattle.om_parse.specs.Reading.{Step, Parser, and_then, ◌>>=◌, pure, one, is, begins, passed, tails, offset_of, expect, identifier_in, column_named, table_named, numeral_of, operator_of, operator_in, operator_at}

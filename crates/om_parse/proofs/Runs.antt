@@ -1,7 +1,7 @@
 -- Where a parser stops: what it read so far is read again whatever follows, and may go on to something of its language.
 use Rattle.std.proofs.Common.{◌≡◌, Bool, true, false, [], ◌∷◌, ◌++◌, Option, Some, None, Result, Ok, Err, refl, sym, ap, subst, ◌∙◌, append_assoc}
-use Rattle.om_parse.specs.declared.token.Token.{Token}
-use Rattle.om_parse.specs.declared.terminal.Terminal.{Terminal}
+use Rattle.om_token.specs.declared.token.Token.{Token}
+use Rattle.om_token.specs.declared.terminal.Terminal.{Terminal}
 use Rattle.om_parse.specs.declared.cursor.Stop.{Stop}
 use Rattle.om_parse.specs.declared.cursor.Stop.TheVariants as stop
 use Rattle.om_parse.specs.Grammar.{Tokens, Lang}

@@ -1,8 +1,8 @@
 -- What is in the language of a production is what its parser reads, where what follows begins nothing that could go on.
 use Rattle.std.proofs.Common.{◌≡◌, ℕ, true, false, List, [], ◌∷◌, ◌++◌, Option, Some, Ok, refl, sym, ap, ◌∙◌, append_assoc}
 use Rattle.std.proofs.lemmas.List.{append-nil}
-use Rattle.om_parse.specs.declared.terminal.Terminal.{Terminal}
-use Rattle.om_parse.specs.declared.terminal.Terminal.TheVariants as t
+use Rattle.om_token.specs.declared.terminal.Terminal.{Terminal}
+use Rattle.om_token.specs.declared.terminal.Terminal.TheVariants as t
 use Rattle.om_parse.specs.declared.tree.Query.{Query}
 use Rattle.om_parse.specs.declared.tree.Item.{Item}
 use Rattle.om_parse.specs.declared.tree.TableName.{TableName}
@@ -12,7 +12,7 @@ use Rattle.om_parse.specs.declared.tree.ExprTree.TheVariants as e
 use Rattle.om_parse.specs.declared.tree.CondTree.{CondTree}
 use Rattle.om_parse.specs.declared.tree.CondTree.TheVariants as c
 use Rattle.om_parse.specs.declared.tree.CompareOp.{CompareOp}
-use Rattle.om_parse.specs.Terminals.{same}
+use Rattle.om_token.specs.Terminals.{same}
 use Rattle.om_parse.specs.Grammar.{Tokens, terminal, all_of, IsColumn, IsNumeral, IsItem, AreMoreItems, AreItems, IsTable, IsOperator, IsTest, AreMoreTests, IsCond, IsFilter, IsQuery}
 use Rattle.om_parse.specs.Reading as r
 use Rattle.om_parse.specs.Reading.{Step, Parser, and_then, ◌>>=◌, pure, begins, passed, tails, expect}

@@ -1,11 +1,11 @@
 -- The trees of a list of tokens, a case for each alternative of a production: SQL-92, sections 7.9, 8.2 and 8.12,
 -- as far as the query language has them.
 use Rattle.std.specs.Prelude.{ℕ, List, [], ◌∷◌, ◌++◌, Option, Some, None}
-use Rattle.om_parse.specs.declared.token.Kind.{Kind}
-use Rattle.om_parse.specs.declared.token.Kind.TheVariants as k
-use Rattle.om_parse.specs.declared.token.Token.{Token}
-use Rattle.om_parse.specs.declared.terminal.Terminal.{Terminal}
-use Rattle.om_parse.specs.declared.terminal.Terminal.TheVariants as t
+use Rattle.om_token.specs.declared.token.Kind.{Kind}
+use Rattle.om_token.specs.declared.token.Kind.TheVariants as k
+use Rattle.om_token.specs.declared.token.Token.{Token}
+use Rattle.om_token.specs.declared.terminal.Terminal.{Terminal}
+use Rattle.om_token.specs.declared.terminal.Terminal.TheVariants as t
 use Rattle.om_parse.specs.declared.tree.Query.{Query}
 use Rattle.om_parse.specs.declared.tree.Item.{Item}
 use Rattle.om_parse.specs.declared.tree.TableName.{TableName}

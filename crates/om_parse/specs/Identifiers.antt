@@ -1,21 +1,10 @@
 -- What an identifier says: SQL-92, section 5.2, <regular identifier> and <delimited identifier body>.
-use Rattle.std.specs.Prelude.{ℕ, List, [], ◌∷◌, if◌then◌else◌, ◌==◌, ◌&&◌}
-use Rattle.std.specs.List.{flat_map}
+use Rattle.std.specs.Prelude.{ℕ, List}
+use Rattle.om_token.specs.Quotes.{unquoted}
 use Rattle.om_parse.specs.declared.tree.Identifier.{Identifier}
 use Rattle.om_parse.specs.declared.tree.Identifier.TheVariants as i
 
--- what stands between quotes, with one quote for each two
-unfoldable pub unquoted : ℕ → List ℕ → List ℕ
-unquoted quote [] = []
-unquoted quote (byte ∷ []) = byte ∷ []
-unquoted quote (byte ∷ second ∷ rest) =
-    if byte == quote && second == quote then quote ∷ unquoted quote rest else byte ∷ unquoted quote (second ∷ rest)
-
--- what has to stand between quotes so that these bytes are said: each quote of theirs twice
-unfoldable pub quoted : ℕ → List ℕ → List ℕ
-quoted quote bytes = flat_map (λ byte. if byte == quote then quote ∷ quote ∷ [] else byte ∷ []) bytes
-
--- the bytes that an identifier says
+-- the bytes that an identifier says: of a delimited one those between double quotes
 abbrev pub said : Identifier → List ℕ
 said (i.Regular name) = name
 said (i.Delimited inside) = unquoted 34 inside

@@ -1,10 +1,10 @@
 -- What the parser reads, as functions on tokens. Each tells where it stopped, also where it fails.
 use Rattle.std.specs.Prelude.{◌≡◌, ℕ, zero, suc, Bool, false, List, [], ◌∷◌, length, Option, Some, None, Result, Ok, Err, if◌then◌else◌}
-use Rattle.om_parse.specs.declared.token.Kind.{Kind}
-use Rattle.om_parse.specs.declared.token.Kind.TheVariants as k
-use Rattle.om_parse.specs.declared.token.Token.{Token}
-use Rattle.om_parse.specs.declared.terminal.Terminal.{Terminal}
-use Rattle.om_parse.specs.declared.terminal.Terminal.TheVariants as t
+use Rattle.om_token.specs.declared.token.Kind.{Kind}
+use Rattle.om_token.specs.declared.token.Kind.TheVariants as k
+use Rattle.om_token.specs.declared.token.Token.{Token}
+use Rattle.om_token.specs.declared.terminal.Terminal.{Terminal}
+use Rattle.om_token.specs.declared.terminal.Terminal.TheVariants as t
 use Rattle.om_parse.specs.declared.cursor.Stop.{Stop}
 use Rattle.om_parse.specs.declared.cursor.Stop.TheVariants as stop
 use Rattle.om_parse.specs.declared.tree.Query.{Query}
@@ -19,7 +19,7 @@ use Rattle.om_parse.specs.declared.tree.CondTree.{CondTree}
 use Rattle.om_parse.specs.declared.tree.CondTree.TheVariants as c
 use Rattle.om_parse.specs.declared.tree.CompareOp.{CompareOp}
 use Rattle.om_parse.specs.declared.tree.CompareOp.TheVariants as o
-use Rattle.om_parse.specs.Terminals.{same}
+use Rattle.om_token.specs.Terminals.{same}
 use Rattle.om_parse.specs.declared.fault.ParseFault.{ParseFault}
 use Rattle.om_parse.specs.declared.fault.ParseFault.TheVariants as f
 use Rattle.om_parse.specs.Grammar.{Tokens, all_of, IsQuery}

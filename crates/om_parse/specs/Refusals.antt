@@ -3,7 +3,7 @@ use Rattle.std.specs.Prelude.{◌≡◌, ℕ, ◌<◌, ◌≤◌, ◌⊎◌, Lis
 use Rattle.om_parse.specs.declared.tree.Query.{Query}
 use Rattle.om_parse.specs.declared.fault.ParseFault.{ParseFault}
 use Rattle.om_parse.specs.declared.fault.ParseFault.TheVariants as f
-use Rattle.om_parse.specs.Tokens.{AreTokens, BeginsNone}
+use Rattle.om_token.specs.Tokens.{AreTokens, BeginsNone}
 use Rattle.om_parse.specs.Grammar.{Tokens, Lang, IsQuery}
 
 -- ---- one place in a list of tokens, whatever the language

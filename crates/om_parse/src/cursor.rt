@@ -5,11 +5,9 @@ ghost use Rattle.om_parse.specs.Refusals.{place_of};
 ghost use Rattle.om_parse.specs.Reading as spec;
 ghost use Rattle.om_parse.specs.Reading.{Reads};
 
-use crate::terminal;
-use crate::terminal::Terminal;
-use crate::token::{Kind, Token};
 use crate::tree::{ColumnName, CompareOp, Identifier, Numeral, TableName};
 use om_base::{Name, NoMemory};
+use om_token::{Kind, Terminal, Token};
 use std::alloc::AllocError;
 use std::marker::Model;
 
@@ -53,7 +51,7 @@ pub struct Cursor<'t, 'a> {
 // Clauses see the tokens, first to last.
 impl<'t, 'a> Model for Cursor<'t, 'a> {
     ghost use Rattle.std.specs.Prelude.{List};
-    ghost use Rattle.om_parse.specs.declared.token.Token.{Token};
+    ghost use Rattle.om_token.specs.declared.token.Token.{Token};
 
     ghost Value = { List Token };
 
@@ -222,11 +220,12 @@ fn operator(kind: &Kind<'_>) -> Option<CompareOp>
 }
 
 /// Whether a token is this reserved word or symbol.
+#[tactic(auto, unfolding(om_token::specs::Terminals::same))]
 fn is(which: Terminal, kind: &Kind<'_>) -> bool
     ensures { result ≡ spec.is which kind.now }
 {
     match kind {
-        Kind::Terminal(other) => terminal::is_same(which, *other),
+        Kind::Terminal(other) => which == *other,
         _ => false,
     }
 }

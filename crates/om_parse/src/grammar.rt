@@ -4,9 +4,9 @@ ghost use Rattle.om_parse.specs.Reading as spec;
 ghost use Rattle.om_parse.specs.Reading.{Reads};
 
 use crate::cursor::{Cursor, Stop};
-use crate::terminal::Terminal;
 use crate::tree::{CondTree, ExprTree, Item, Query, TableName};
 use om_base::Items;
+use om_token::Terminal;
 use sqlite_items::Items as Members;
 use std::alloc::Global;
 

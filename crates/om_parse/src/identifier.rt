@@ -1,41 +1,15 @@
 //! What an identifier says: SQL-92, section 5.2.
 
-ghost use Rattle.std.specs.Prelude.{◌≡◌, ◌<◌, ℕ, false, List, [], ◌∷◌, ◌++◌, length, IfOk, IfSome, None};
+ghost use Rattle.std.specs.Prelude.{◌≡◌, ℕ, false, List, ◌++◌, IfOk};
 ghost use Rattle.std.specs.Option.{option_map_or};
 ghost use Rattle.std.specs.Str.{bytes_eq};
 ghost use Rattle.om_parse.specs.Identifiers as spec;
-ghost use Rattle.om_parse.specs.Identifiers.{unquoted};
+ghost use Rattle.om_token.specs.Quotes.{unquoted};
 
 use crate::tree::Identifier;
 use om_base::{NoMemory, Text};
+use om_token::{first_said, unquoted};
 use std::alloc::Global;
-
-/// The first byte that is said between quotes, and what stands after it.
-#[tactic(auto, unfolding(crate::specs::Identifiers::unquoted))]
-fn first_said(quote: u8, inside: &[u8]) -> Option<(u8, &[u8])>
-    ensures none { result ≡ None → unquoted quote inside.now ≡ [] }
-    ensures some { IfSome result (λ x. unquoted quote inside.now ≡ x.0 ∷ unquoted quote x.1.now) }
-    ensures shorter { IfSome result (λ x. length x.1.now < length inside.now) }
-{
-    match inside {
-        [first, second, rest @ ..] if *first == quote && *second == quote => Some((quote, rest)),
-        [byte, rest @ ..] => Some((*byte, rest)),
-        [] => None,
-    }
-}
-
-/// What is said between quotes.
-fn unquoted(alloc: Global, quote: u8, inside: &[u8]) -> Result<Text, NoMemory>
-    ensures { IfOk result (λ text. text ≡ unquoted quote inside.now) }
-{
-    let mut text = Text::copy_of(alloc, b"")?;
-    let mut rest = inside;
-    while let Some((byte, others)) = first_said(quote, rest) {
-        text.add(&[byte])?;
-        rest = others;
-    }
-    Ok(text)
-}
 
 /// What stands behind these bytes, if bytes begin with them.
 fn behind<'a>(whole: &'a [u8], bytes: &[u8]) -> Option<&'a [u8]>

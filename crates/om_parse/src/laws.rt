@@ -1,25 +1,11 @@
-//! What holds of texts, tokens and trees, whatever the parser does.
+//! What holds of texts and trees, whatever the parser does.
 
 ghost use Rattle.std.specs.Prelude.{◌≡◌, ℕ, ◌⊎◌, List};
-ghost use Rattle.om_parse.specs.declared.token.Token.{Token};
+ghost use Rattle.om_token.specs.declared.token.Token.{Token};
 ghost use Rattle.om_parse.specs.declared.tree.Query.{Query};
 ghost use Rattle.om_parse.specs.declared.fault.ParseFault.{ParseFault};
-ghost use Rattle.om_parse.specs.Identifiers.{quoted, unquoted};
-ghost use Rattle.om_parse.specs.Tokens.{AreTokens, IsQuoted};
 ghost use Rattle.om_parse.specs.Grammar.{IsQuery};
 ghost use Rattle.om_parse.specs.Refusals.{HasTree, IsRefused, IsRefusal};
-
-/// Bytes have one spelling between quotes, in which each quote of theirs stands twice.
-pub fn one_spelling()
-    ensures says { (quote : ℕ) (bytes : List ℕ) → unquoted quote (quoted quote bytes) ≡ bytes }
-    ensures alone { (quote : ℕ) (inside : List ℕ) → IsQuoted quote inside → inside ≡ quoted quote (unquoted quote inside) }
-    ensures allowed { (quote : ℕ) (bytes : List ℕ) → IsQuoted quote (quoted quote bytes) }
-{}
-
-/// A text has one list of tokens at most.
-pub fn one_token_list()
-    ensures { (text : List ℕ) (a b : List Token) → AreTokens text a → AreTokens text b → a ≡ b }
-{}
 
 /// A list of tokens has one tree at most, and so has a text, the offsets in the trees included.
 pub fn one_tree()

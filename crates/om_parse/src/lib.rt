@@ -1,4 +1,5 @@
-//! The query language, a subset of SQL-92: tokens, the tree of a query, and the parser.
+//! The query language, a subset of SQL-92: the tree of a query, and the parser over the tokens of
+//! `om_token`.
 //!
 //! A query is a list of columns, one table, and an optional condition of comparisons joined by AND:
 //!
@@ -18,16 +19,11 @@ mod fault;
 mod grammar;
 mod identifier;
 mod laws;
-mod numeral;
-mod piece;
 mod query;
-mod terminal;
-mod token;
-mod tokenizer;
 mod tree;
 
 pub use fault::ParseFault;
-pub use laws::{never_both, one_refusal, one_spelling, one_token_list, one_tree, tree_or_refusal};
+pub use laws::{never_both, one_refusal, one_tree, tree_or_refusal};
 pub use query::parse;
 pub use tree::{
     ColumnName, CompareOp, CondTree, ExprTree, Identifier, Item, Numeral, Query, TableName,

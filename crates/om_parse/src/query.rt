@@ -9,9 +9,9 @@ ghost use Rattle.om_parse.specs.Reading.{IsTokenFault};
 
 use crate::cursor::{Cursor, Stop};
 use crate::fault::ParseFault;
-use crate::token::Token;
+use crate::grammar;
 use crate::tree::Query;
-use crate::{grammar, tokenizer};
+use om_token::{Token, TokenFault};
 use std::alloc::Global;
 
 /// The most bytes that the text of a query may have.
@@ -42,7 +42,11 @@ fn read<'a>(alloc: Global, text: &'a [u8]) -> Result<Query<'a>, ParseFault>
             length: text.len() as u64,
         });
     }
-    let tokens = tokenizer::tokens(alloc, text)?;
+    let tokens = match om_token::tokens(alloc, text) {
+        Ok(tokens) => tokens,
+        Err(TokenFault::NoMemory) => return Err(ParseFault::NoMemory),
+        Err(TokenFault::NoToken { at }) => return Err(ParseFault::Syntax { at }),
+    };
     parse_tokens(alloc, tokens.as_slice(), text.len() as u32)
 }
 

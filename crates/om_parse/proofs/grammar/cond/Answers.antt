@@ -1,5 +1,5 @@
 use Rattle.std.proofs.Common.{◌∙◌, sym, subst, ap, Ok}
-use Rattle.om_parse.specs.declared.terminal.Terminal.TheVariants as t
+use Rattle.om_token.specs.declared.terminal.Terminal.TheVariants as t
 use Rattle.om_parse.specs.declared.tree.CondTree.{CondTree}
 use Rattle.om_parse.specs.Grammar.{Tokens}
 use Rattle.om_parse.specs.Reading.{Step, joined, Reads}

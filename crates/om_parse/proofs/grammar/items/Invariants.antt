@@ -1,5 +1,5 @@
 use Rattle.std.proofs.Common.{◌≡◌, length}
-use Rattle.om_parse.specs.declared.terminal.Terminal.TheVariants as t
+use Rattle.om_token.specs.declared.terminal.Terminal.TheVariants as t
 use Rattle.om_parse.specs.Reading.{item, items}
 use Rattle.om_parse.proofs.ListLemmas.{Left, item_shrinks}
 use Rattle.om_parse.proofs.grammar.items.Given as goal

@@ -1,5 +1,5 @@
 use Rattle.std.proofs.Common.{◌≡◌, length}
-use Rattle.om_parse.specs.declared.terminal.Terminal.TheVariants as t
+use Rattle.om_token.specs.declared.terminal.Terminal.TheVariants as t
 use Rattle.om_parse.specs.declared.tree.CondTree.TheVariants as c
 use Rattle.om_parse.specs.Reading.{one_test, joined}
 use Rattle.om_parse.proofs.ListLemmas.{Left, test_shrinks}

@@ -1,6 +1,6 @@
 use Rattle.std.proofs.Common.{◌≡◌, ℕ, List, ◌++◌, length}
 use Rattle.std.specs.Str.{bytes_eq}
-use Rattle.om_parse.specs.Identifiers.{unquoted}
+use Rattle.om_token.specs.Quotes.{unquoted}
 use Rattle.om_parse.proofs.identifier.behind_said.Given as goal
 
 abbrev pub invariant-loop-bytes : goal.invariant-loop-bytes

@@ -2,7 +2,7 @@ use Rattle.std.proofs.Common.{◌≡◌, ℕ, Bool, true, false, not, List, [], 
 use Rattle.std.specs.Option.{is_some}
 use Rattle.std.specs.Str.{bytes_eq}
 use Rattle.std.proofs.lemmas.List.{append-nil}
-use Rattle.om_parse.specs.Identifiers.{unquoted}
+use Rattle.om_token.specs.Quotes.{unquoted}
 use Rattle.om_parse.proofs.identifier.is_unquoted.Goals as goal
 
 nothing_said : (first : Option (ℕ × Bor (List ℕ))) (said : List ℕ) (isnt : Bool) → (first ≡ None → said ≡ []) → IfSome first (λ x. said ≡ x.0 ∷ unquoted 34 x.1.now) → is_some first ≡ not isnt → isnt ≡ bytes_eq said []

@@ -1,9 +1,0 @@
-use Rattle.std.proofs.Common.{◌≡◌, ◌++◌, length}
-use Rattle.om_parse.specs.Identifiers.{unquoted}
-use Rattle.om_parse.proofs.identifier.unquoted.Given as goal
-
-abbrev pub invariant-loop-byte : goal.invariant-loop-byte
-invariant-loop-byte l = l.text ++ unquoted l.quote l.rest ≡ unquoted l.quote l.inside
-
-abbrev pub decreases-loop-byte : goal.decreases-loop-byte
-decreases-loop-byte l = length l.rest
