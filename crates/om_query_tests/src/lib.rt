@@ -1,4 +1,4 @@
-//! Tests of queries, tables and what surrounds them: the crates `om_base`, `om_io`, `om_parse`, `om_eval`, `om_table` and `om_type`.
+//! Tests of queries, tables and what surrounds them: the crates `om_base`, `om_io`, `om_token`, `om_parse`, `om_eval`, `om_table` and `om_type`.
 #![tactic(auto)]
 
 #[cfg(test)]
@@ -11,6 +11,8 @@ mod io;
 mod parse;
 #[cfg(test)]
 mod table;
+#[cfg(test)]
+mod tokens;
 #[cfg(test)]
 mod typing;
 #[cfg(test)]
