@@ -1,10 +1,12 @@
-//! Tests of queries, tables and what surrounds them: the crates `om_base`, `om_io`, `om_token`, `om_parse`, `om_eval`, `om_table` and `om_type`.
+//! Tests of queries, tables and what surrounds them: the crates `om_base`, `om_io`, `om_token`, `om_parse`, `om_grammar`, `om_eval`, `om_table` and `om_type`.
 #![tactic(auto)]
 
 #[cfg(test)]
 mod base;
 #[cfg(test)]
 mod eval;
+#[cfg(test)]
+mod grammar;
 #[cfg(test)]
 mod io;
 #[cfg(test)]
