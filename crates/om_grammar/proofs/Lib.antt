@@ -17,3 +17,11 @@ pub mod TakesParts
 pub mod DepthLaws
 pub mod ParseLaws
 pub mod TotalLaws
+pub mod WordLemmas
+pub mod Cuts
+pub mod Written
+pub mod Spelled
+pub mod SpelledExpressions
+pub mod SpelledConditions
+pub mod SpelledQueries
+pub mod RoundTrip

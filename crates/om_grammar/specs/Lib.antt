@@ -4,3 +4,6 @@ pub mod Reading
 pub mod Depth
 pub mod Refusals
 pub mod Counts
+pub mod Words
+pub mod Sameness
+pub mod Spelling

@@ -7,6 +7,9 @@ ghost use Rattle.om_grammar.specs.declared.fault.ParseFault.{ParseFault};
 ghost use Rattle.om_grammar.specs.Grammar.{IsQuery};
 ghost use Rattle.om_grammar.specs.Depth.{IsShallow, IsTooDeep};
 ghost use Rattle.om_grammar.specs.Refusals.{HasTree, IsRefused, IsRefusal};
+ghost use Rattle.om_grammar.specs.Sameness.{SameQuery};
+ghost use Rattle.om_grammar.specs.Spelling.{IsPastLimits};
+ghost use Rattle.om_grammar.specs.Words.{query_text};
 
 /// Tokens nest too deep at one place at most, and everywhere else they don't.
 pub fn one_depth()
@@ -36,4 +39,10 @@ pub fn never_both()
 /// Every text has a tree or is refused.
 pub fn tree_or_refusal()
     ensures { (text : List ℕ) → ((query : Query) × HasTree text query) ⊎ ((fault : ParseFault) × IsRefusal text fault) }
+{}
+
+/// The text of a tree has a tree again unless it goes past the limits on length or depth. It is the same apart from offsets.
+pub fn round_trip()
+    ensures again { (text : List ℕ) (query : Query) → HasTree text query → ((again : Query) × HasTree (query_text query) again) ⊎ ((fault : ParseFault) × IsPastLimits (query_text query) fault) }
+    ensures same { (text : List ℕ) (query again : Query) → HasTree text query → HasTree (query_text query) again → SameQuery query again }
 {}

@@ -45,16 +45,19 @@ mod lead;
 mod names;
 mod parts;
 mod predicates;
+mod printing;
 mod query;
 mod readers;
 mod start;
 mod stop;
 mod tree;
+mod words;
 
 pub use cond_tree::{CompareOp, CondTree, Polarity, Predicate};
 pub use expr_tree::{Addend, ExprTree, Factor, Function, Numeral, Scale, Sign, Width};
 pub use fault::ParseFault;
-pub use laws::{never_both, one_depth, one_refusal, one_tree, tree_or_refusal};
+pub use laws::{never_both, one_depth, one_refusal, one_tree, round_trip, tree_or_refusal};
+pub use printing::text_of;
 pub use query::parse;
 pub use tree::{
     Alias, ColumnName, Direction, Identifier, Item, Key, Label, Query, SortKey, TableName,
