@@ -1,0 +1,9 @@
+pub mod Acceptance
+pub mod Induction
+pub mod Intervals
+pub mod KindsOf
+pub mod Members
+pub mod Ranges
+pub mod Settling
+pub mod Truths
+pub mod Values
