@@ -1,4 +1,4 @@
-//! Tests of queries, tables and what surrounds them: the crates `om_base`, `om_io`, `om_token`, `om_parse`, `om_grammar`, `om_eval`, `om_table` and `om_type`.
+//! Tests of queries, tables and what surrounds them: the crates `om_base`, `om_io`, `om_token`, `om_parse`, `om_grammar`, `om_eval`, `om_value`, `om_table` and `om_type`.
 #![tactic(auto)]
 
 #[cfg(test)]
@@ -12,6 +12,8 @@ mod io;
 #[cfg(test)]
 mod parse;
 #[cfg(test)]
+mod spelling;
+#[cfg(test)]
 mod table;
 #[cfg(test)]
 mod tokens;
@@ -19,3 +21,5 @@ mod tokens;
 mod typing;
 #[cfg(test)]
 mod unmoved;
+#[cfg(test)]
+mod values;
