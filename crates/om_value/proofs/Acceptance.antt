@@ -20,31 +20,31 @@ use Rattle.om_value.proofs.Induction.{Each, by_cond_cases}
 use Rattle.om_value.proofs.Intervals.{came, expr_sound}
 use Rattle.om_value.proofs.Truths.{truth-Compare, truth-Between, truth-In, truth-IsNull, truth-Not, truth-All, truth-Any}
 
-accepts-Compare : (columns : ColumnId → Kind) (compare : Compare) (left right : Expr) → accepts columns (cond.Compare compare left right) ≡ comparable columns left right
+pub accepts-Compare : (columns : ColumnId → Kind) (compare : Compare) (left right : Expr) → accepts columns (cond.Compare compare left right) ≡ comparable columns left right
 unfolding accepts
 accepts-Compare columns compare left right = ap (accepts columns) (sym (rolls-Compare compare left right)) ∙ fold-roll-Cond Accepts (accept_step columns) (Cond-F.Compare compare left right)
 
-accepts-Between : (columns : ColumnId → Kind) (polarity : Polarity) (what low high : Expr) → accepts columns (cond.Between polarity what low high) ≡ both_accepted (comparable columns what low) (comparable columns what high)
+pub accepts-Between : (columns : ColumnId → Kind) (polarity : Polarity) (what low high : Expr) → accepts columns (cond.Between polarity what low high) ≡ both_accepted (comparable columns what low) (comparable columns what high)
 unfolding accepts
 accepts-Between columns polarity what low high = ap (accepts columns) (sym (rolls-Between polarity what low high)) ∙ fold-roll-Cond Accepts (accept_step columns) (Cond-F.Between polarity what low high)
 
-accepts-In : (columns : ColumnId → Kind) (polarity : Polarity) (what : Expr) (list : List Expr) → accepts columns (cond.In polarity what list) ≡ both_accepted (judged columns what) (all_accepted (map (comparable columns what) list))
+pub accepts-In : (columns : ColumnId → Kind) (polarity : Polarity) (what : Expr) (list : List Expr) → accepts columns (cond.In polarity what list) ≡ both_accepted (judged columns what) (all_accepted (map (comparable columns what) list))
 unfolding accepts
 accepts-In columns polarity what list = ap (accepts columns) (sym (rolls-In polarity what list)) ∙ fold-roll-Cond Accepts (accept_step columns) (Cond-F.In polarity what list)
 
-accepts-IsNull : (columns : ColumnId → Kind) (polarity : Polarity) (what : Expr) → accepts columns (cond.IsNull polarity what) ≡ judged columns what
+pub accepts-IsNull : (columns : ColumnId → Kind) (polarity : Polarity) (what : Expr) → accepts columns (cond.IsNull polarity what) ≡ judged columns what
 unfolding accepts
 accepts-IsNull columns polarity what = ap (accepts columns) (sym (rolls-IsNull polarity what)) ∙ fold-roll-Cond Accepts (accept_step columns) (Cond-F.IsNull polarity what)
 
-accepts-Not : (columns : ColumnId → Kind) (member : Cond) → accepts columns (cond.Not member) ≡ accepts columns member
+pub accepts-Not : (columns : ColumnId → Kind) (member : Cond) → accepts columns (cond.Not member) ≡ accepts columns member
 unfolding accepts
 accepts-Not columns member = ap (accepts columns) (sym (rolls-Not member)) ∙ fold-roll-Cond Accepts (accept_step columns) (Cond-F.Not member)
 
-accepts-All : (columns : ColumnId → Kind) (members : List Cond) → accepts columns (cond.All members) ≡ all_accepted (map (accepts columns) members)
+pub accepts-All : (columns : ColumnId → Kind) (members : List Cond) → accepts columns (cond.All members) ≡ all_accepted (map (accepts columns) members)
 unfolding accepts
 accepts-All columns members = ap (accepts columns) (sym (rolls-All members)) ∙ fold-roll-Cond Accepts (accept_step columns) (Cond-F.All members)
 
-accepts-Any : (columns : ColumnId → Kind) (members : List Cond) → accepts columns (cond.Any members) ≡ all_accepted (map (accepts columns) members)
+pub accepts-Any : (columns : ColumnId → Kind) (members : List Cond) → accepts columns (cond.Any members) ≡ all_accepted (map (accepts columns) members)
 unfolding accepts
 accepts-Any columns members = ap (accepts columns) (sym (rolls-Any members)) ∙ fold-roll-Cond Accepts (accept_step columns) (Cond-F.Any members)
 

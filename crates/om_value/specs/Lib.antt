@@ -1,3 +1,4 @@
+pub mod ColumnKinds
 pub mod Kinds
 pub mod Known
 pub mod Looks
