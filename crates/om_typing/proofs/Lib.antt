@@ -1,0 +1,15 @@
+pub mod Prefixes
+pub mod AggregateLemmas
+pub mod Resolutions
+pub mod ConditionsIn
+pub mod Noting
+pub mod TableList
+pub mod ColumnsJudged
+pub mod Judgings
+pub mod QueriesNoted
+pub mod FirstLemmas
+pub mod Foremosts
+pub mod TreeInduction
+pub mod Accepted
+pub mod AcceptedConditions
+pub mod AcceptedQueries
