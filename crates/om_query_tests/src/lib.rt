@@ -1,4 +1,4 @@
-//! Tests of queries, tables and what surrounds them: the crates `om_base`, `om_io`, `om_token`, `om_parse`, `om_grammar`, `om_eval`, `om_value`, `om_table` and `om_type`.
+//! Tests of queries, tables and what surrounds them: the crates `om_base`, `om_io`, `om_token`, `om_parse`, `om_grammar`, `om_eval`, `om_value`, `om_table`, `om_type` and `om_typing`.
 #![tactic(auto)]
 
 #[cfg(test)]
@@ -9,6 +9,8 @@ mod eval;
 mod grammar;
 #[cfg(test)]
 mod io;
+#[cfg(test)]
+mod mistakes;
 #[cfg(test)]
 mod parse;
 #[cfg(test)]
